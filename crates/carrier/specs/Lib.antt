@@ -1,0 +1,3 @@
+pub mod Meaning
+pub mod Plain
+pub mod PlainMeaning

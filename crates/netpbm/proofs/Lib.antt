@@ -1,0 +1,4 @@
+pub mod Running
+pub mod Body
+pub mod Numerals
+pub mod Pictures

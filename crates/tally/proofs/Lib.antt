@@ -1,0 +1,3 @@
+pub mod Best
+pub mod Choosing
+pub mod Tallying

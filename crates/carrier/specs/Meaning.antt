@@ -1,4 +1,4 @@
--- What a carrier is: a row of places over a picture. Assumes nothing.
+-- What every carrier has and obeys. Assumes nothing.
 use mathlib.Core.Path.{_≡_}
 use mathlib.Core.List.{List, [], _∷_}
 use Prim.Native.Nat.{ℕ, _<_, _≤_}
@@ -41,11 +41,11 @@ pub record Meaning {S R : Type 0} (rest : S → R) (codes : S → List ℤ) (sit
   pub paired : (s : S) → length (sites (rest s)) ≡ length (codes s)
   -- a seat is a sample of the picture
   pub seated : (s : S) (i : ℕ) → i < length (codes s) → seat-at (sites (rest s)) i < length (picture s)
-  -- no two places share a seat
+  -- different places have different seats
   pub apart : (s : S) (i j : ℕ) → i < length (codes s) → j < length (codes s) → seat-at (sites (rest s)) i ≡ seat-at (sites (rest s)) j → i ≡ j
-  -- the picture follows from the rest and the codes
+  -- rest and codes determine the picture
   pub follows : (s t : S) → rest s ≡ rest t → codes s ≡ codes t → picture s ≡ picture t
-  -- the rest tells how many samples there are, and each one that is no place's seat
+  -- the rest knows how many samples there are, and every sample but those at the seats
   pub told-length : (s t : S) → rest s ≡ rest t → length (picture s) ≡ length (picture t)
   pub told : (s t : S) → rest s ≡ rest t → (k : ℕ) → Unseated (sites (rest s)) k → getD (picture s) k 0 ≡ getD (picture t) k 0
 

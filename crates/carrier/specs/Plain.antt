@@ -20,13 +20,15 @@ pub record PlainRest : Type 0 where
 abbrev pub plain-site : ℕ → ℕ → Site
 plain-site maximum i = record { low = pos 0; high = pos maximum; seat = i }
 
+-- the sites of all places, in their order
 unfoldable pub plain-sites : PlainRest → List Site
 plain-sites r = map (plain-site (r .maximum)) (counting 0 (r .count))
 
--- its code is the sample
+-- the code of a place is its sample
 unfoldable pub plain-codes : List ℕ → List ℤ
 plain-codes samples = map pos (take most samples)
 
+-- the rest of the plain carrier with this maximum, over a picture of these samples
 unfoldable pub plain-rest : ℕ → List ℕ → PlainRest
 plain-rest maximum samples = record { maximum = maximum; count = min most (length samples); beyond = drop most samples }
 

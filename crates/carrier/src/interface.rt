@@ -1,4 +1,4 @@
-// The reading interface of a carrier.
+// What can be asked of a carrier.
 ghost use mathlib.Core.Path.{_≡_};
 ghost use mathlib.Core.List.{List};
 ghost use Prim.Native.Nat.{ℕ};
@@ -7,7 +7,8 @@ ghost use lib.ListN.{length};
 ghost use Rattle.carrier.specs.Meaning.{Site, Meaning, Placed};
 use refusal::Refusal;
 
-// What a carrier answers for one place.
+// What a carrier answers for one place: its code, the least and the greatest value that may be put there, and its seat,
+// the number of the sample that it stands for.
 #[derive(Clone, Copy, PartialEq, Eq, Debug)]
 pub struct Place {
     pub code: i32,
@@ -16,21 +17,26 @@ pub struct Place {
     pub seat: usize,
 }
 
-// A row of at most 2^26 places over a picture. Each place stands for one sample, its seat.
+// A picture seen as a row of places, each of which stands for one sample, its seat. There are at most 2^26.
 pub trait Carrier {
     // All that a carrier has but its codes: lows, highs, seats, height, the samples that are no seats, and perhaps more.
     ghost Rest: { Type 0 };
 
     ghost rest: { Self → Rest };
 
+    // The code of each place, in the order of places.
     ghost codes: { Self → List ℤ };
 
+    // Low, high and seat of each place.
     ghost sites: { Rest → List Site };
 
+    // The height.
     ghost level: { Rest → ℕ };
 
+    // The samples.
     ghost picture: { Self → List ℕ };
 
+    // The laws that an implementation shows.
     ghost meaning: { Meaning rest codes sites picture };
 
     // The number of places.

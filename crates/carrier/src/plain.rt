@@ -41,7 +41,7 @@ pub struct Plain<S> {
 }
 
 impl<'a> Plain<&'a [u8]> {
-    // Opens the plain carrier of a picture that may not be written, with one byte a sample. Codes above the maximum
+    // Opens the plain carrier of a picture that is only read, with one byte a sample. Codes above the maximum
     // are read as they are.
     pub fn reading(samples: &'a [u8], maximum: u8) -> Plain<&'a [u8]>
         ensures picture { λ r. ⌜ now (r .samples) ≡ now (samples .entry) ⌝ }

@@ -43,7 +43,7 @@ impl Pair {
         }
     }
 
-    // Counts the slots and the map bits of a mark with this pair on a carrier.
+    // Slots and map bits of a mark with this pair on a carrier.
     pub fn counts_on<C: Carrier>(self, c: &C) -> Counts
         ensures slots { λ r. ⌜ r .slots ≡ slots (self .peak) (self .zero) (sites (rest (now (c .entry)))) (codes (now (c .entry))) ⌝ }
         ensures map_bits { λ r. ⌜ r .«map_bits» ≡ map-bits (self .peak) (self .zero) (sites (rest (now (c .entry)))) (codes (now (c .entry))) ⌝ }

@@ -8,7 +8,7 @@ use Rattle.std.specs.shelf.Lists.{All}
 use Rattle.netpbm.specs.declared.Header.{Header}
 use Rattle.netpbm.specs.Bytes.{white, digit, value}
 
--- a white byte, or a comment: from byte 35 to the next byte 10
+-- a white byte, or a comment: byte 35, any bytes but 10, and byte 10
 pub data Blank : List ℕ → Type 0 where
   space : (b : ℕ) → white b ≡ true → Blank (b ∷ [])
   comment : (text : List ℕ) → All (λ b. b ≡ 10 → ⊥) text → Blank (35 ∷ (text ++ 10 ∷ []))

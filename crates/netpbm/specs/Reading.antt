@@ -1,4 +1,4 @@
--- The one answer to each file: its questions in their order, the first that does not hold giving its number.
+-- What is answered to a file: the questions one after another, until one fails.
 -- Assumes nothing.
 use mathlib.Core.Bool.{Bool, true, false, cond, not, _&&_, _||_}
 use mathlib.Core.List.{List, [], _∷_}
@@ -29,7 +29,7 @@ abbrev pub begins-gap : List ℕ → Bool
 begins-gap [] = false
 begins-gap (b ∷ bs) = white b || eqb b 35
 
--- one to five digits at the front, up to a byte that is none: their number and the bytes after them
+-- all the digits at the front, if they are one to five: their number and the bytes after them
 unfoldable pub digits : List ℕ → Option (ℕ × List ℕ)
 digits bs = let n = leading digit bs in cond (leb 1 n && leb n 5) (Some (value (take n bs), drop n bs)) None
 
@@ -41,7 +41,7 @@ number bs = cond (begins-gap bs) (digits (after-gap false bs)) None
 unfoldable pub first-above : ℕ → List ℕ → Option ℕ
 first-above maximum samples = let n = leading (λ s. leb s maximum) samples in cond (eqb n (length samples)) None (Some n)
 
--- the bytes end with one white byte and then exactly n samples
+-- the bytes are a white byte and n samples, and no more
 abbrev pub ends-with : ℕ → List ℕ → Bool
 ends-with n [] = false
 ends-with n (b ∷ samples) = white b && eqb (length samples) n

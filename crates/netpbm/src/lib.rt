@@ -135,7 +135,7 @@ fn sample_count(width: u16, height: u16, channels: u8) -> usize
     usize::from(width) * usize::from(height) * usize::from(channels)
 }
 
-// The samples, if one white byte and then exactly `count` bytes are left.
+// The samples, if the bytes are one white byte and `count` samples, and no more.
 fn samples(rest: &[u8], count: usize) -> Option<&[u8]>
     ensures { λ r. ⌜ Holds-samples r (now (rest .entry)) count ⌝ }
 {

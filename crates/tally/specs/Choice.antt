@@ -18,6 +18,7 @@ peak-at reach counts = first-best Greatest (take (2 * reach) counts)
 abbrev pub zero-at : ℕ → List ℕ → ℕ
 zero-at reach counts = suc (peak-at reach counts) + first-best Least (drop (suc (peak-at reach counts)) counts)
 
+-- the codes that stand there
 abbrev pub peak-of : ℕ → List Site → List ℤ → ℤ
 peak-of reach sites codes = tallied reach (peak-at reach (tally reach sites codes))
 

@@ -24,10 +24,11 @@ occurs sites codes c = places-with (has-code c) sites codes
 abbrev pub tallied : ℕ → ℕ → ℤ
 tallied reach k = pos k -ℤ pos reach
 
+-- how often each of these codes occurs, the smallest code first
 unfoldable pub tally : ℕ → List Site → List ℤ → List ℕ
 tally reach sites codes = map (λ k. occurs sites codes (tallied reach k)) (counting 0 (2 * reach + 1))
 
--- x is better than y
+-- the count x is better than the count y
 abbrev pub beats : Extreme → ℕ → ℕ → Bool
 beats Greatest x y = ltb y x
 beats Least x y = ltb x y

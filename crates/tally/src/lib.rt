@@ -112,8 +112,8 @@ fn pair_for<C: Carrier>(c: &C) -> Pair
     choose(&counts)
 }
 
-// The most frequent code up to 254 and the least frequent code above it, up to 255; the smaller code wins a tie. With
-// them, the slots and the map bits that a mark with this pair would find.
+// The most frequent code up to 254 and the least frequent code above it, up to 255; of equals the smaller is taken.
+// With them, slots and map bits of a mark with this pair.
 pub fn survey<C: Carrier>(c: &C) -> Surveyed
     ensures value { λ r. ⌜ r ≡ surveyed 255 (sites (rest (now (c .entry)))) (codes (now (c .entry))) ⌝ }
     ensures peak { λ r. ⌜ IsPeak 255 (sites (rest (now (c .entry)))) (codes (now (c .entry))) (r .pair .peak) ⌝ }

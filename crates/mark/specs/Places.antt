@@ -10,7 +10,7 @@ use Rattle.carrier.specs.Meaning.{Site}
 abbrev pub same : ℤ → ℤ → Bool
 same a b = leZ a b && leZ b a
 
--- the top of a place: no code that the mark moves rises above it
+-- the top of a place: z, or its high where that is lower
 abbrev pub top-of : ℤ → Site → ℤ
 top-of z s = minZ z (s .high)
 

@@ -30,7 +30,7 @@ impl Pair {
     fn active(self, at: Place) -> bool
         ensures { λ r. ⌜ r ≡ is-active (self .peak) (self .zero) (site-of at) (at .code) ⌝ }
     {
-        // `&` and not `&&`: the four comparisons cost less than three branches.
+        // `&` has no branch, so there is one way through this.
         (at.low <= self.peak)
             & (self.peak < at.high)
             & (self.peak <= at.code)

@@ -46,6 +46,7 @@ abbrev pub ends-with : ℕ → List ℕ → Bool
 ends-with n [] = false
 ends-with n (b ∷ samples) = white b && eqb (length samples) n
 
+-- a width or a height within its bounds
 abbrev pub side : ℕ → Bool
 side n = leb 1 n && leb n 4096
 
@@ -58,6 +59,7 @@ asked all c w h m rest =
     none-found 19 (first-above m (drop 1 rest)) (
     accepted (record { channels = c; width = w; height = h; maximum = m; length = all - w * h * c })))))
 
+-- all questions, 14 first
 abbrev pub reading : List ℕ → Answer Header
 reading file =
     given 14 (channels file) (λ c.

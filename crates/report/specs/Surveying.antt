@@ -11,12 +11,12 @@ use Rattle.tally.specs.declared.Surveyed.{Surveyed}
 use Rattle.tally.specs.Choice.{surveyed}
 
 -- the survey of the plain carrier of a picture, by its maximum and its samples
-abbrev pub plainly : ℕ → List ℕ → Surveyed
-plainly maximum samples = surveyed 255 (plain-sites (plain-rest maximum samples)) (plain-codes samples)
+abbrev pub plain-survey : ℕ → List ℕ → Surveyed
+plain-survey maximum samples = surveyed 255 (plain-sites (plain-rest maximum samples)) (plain-codes samples)
 
 -- the answer for a file whose header was read
 abbrev pub after-header : List ℕ → Answer Header → Answer Surveyed
-after-header file (accepted h) = accepted (plainly (h .maximum) (drop (h .length) file))
+after-header file (accepted h) = accepted (plain-survey (h .maximum) (drop (h .length) file))
 after-header file (refused n told) = refused n told
 
 -- question 20, and then those of the picture file

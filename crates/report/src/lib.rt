@@ -7,7 +7,7 @@ ghost use Rattle.refusal.specs.Answers.{answer};
 ghost use Rattle.netpbm.specs.File.{IsPicture};
 ghost use Rattle.netpbm.specs.Reading.{reading};
 ghost use Rattle.report.specs.Line.{line-of};
-ghost use Rattle.report.specs.Surveying.{plainly, after-header, surveying};
+ghost use Rattle.report.specs.Surveying.{plain-survey, after-header, surveying};
 use carrier::BytesSamples;
 use carrier::Plain;
 use carrier::PlainCarrier;
@@ -24,7 +24,7 @@ const LONGEST: usize = 65_536;
 // Surveys the plain carrier of a picture.
 fn survey_samples(file: &[u8], header: Header) -> Surveyed
     requires { ⌜ IsPicture (now file) header ⌝ }
-    ensures { λ r. ⌜ r ≡ plainly (header .maximum) (drop (header .length) (now (file .entry))) ⌝ }
+    ensures { λ r. ⌜ r ≡ plain-survey (header .maximum) (drop (header .length) (now (file .entry))) ⌝ }
 {
     let start = header.length;
     let maximum = header.maximum;

@@ -1,4 +1,6 @@
 // Carriers: rows of places over a picture, whose samples stay where they are.
+#![tactic(auto)]
+
 mod interface;
 mod lent;
 mod plain;

@@ -1,5 +1,7 @@
 // The corner carrier: the lower right sample of each block of 2 x 2 pixels, by its distance from a prediction. This file
 // tells where its places lie, by the picture's width and channels.
+#![tactic(auto)]
+
 ghost use Rattle.std.specs.Prelude.{◌≡◌, ◌+◌, ◌/◌, ◌%◌, ◌<◌, ◌≤◌, MatchOption};
 ghost use Rattle.carrier.specs.Storing.{most};
 ghost use Rattle.corner.specs.Channels.{counted, channel_count};

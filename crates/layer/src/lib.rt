@@ -1,4 +1,6 @@
 // Layers: carriers that hold one carrier below. This file has what every layer does.
+#![tactic(auto)]
+
 ghost use Rattle.std.specs.Prelude.{◌≡◌, ℤ, Err, MatchResult};
 ghost use Rattle.carrier.specs.Meaning.{Describes, Puts};
 ghost use Rattle.layer.specs.Over.{raised};

@@ -1,4 +1,6 @@
 // Marks on any carrier: the pair of a mark, and what a mark with it makes of one place.
+#![tactic(auto)]
+
 ghost use Rattle.std.specs.Prelude.{◌≡◌, pos, ◌≤ℤ◌};
 ghost use Rattle.carrier.specs.Meaning.{site_of, InRange};
 ghost use Rattle.mark.specs.Places.{same, top_of, flat_of, is_active, is_slot, is_at_top, is_mapped};

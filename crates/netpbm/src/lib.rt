@@ -1,4 +1,6 @@
 // Picture files: the binary grey and colour formats of Netpbm, with one byte to a sample.
+#![tactic(auto)]
+
 ghost use Rattle.std.specs.Prelude.{◌≡◌, ℕ, ◌*◌, ◌≤◌, ◌&&◌, length, nat_le};
 ghost use Rattle.refusal.specs.Answers.{answer};
 ghost use Rattle.netpbm.specs.Bytes.{white};

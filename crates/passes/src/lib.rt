@@ -1,4 +1,6 @@
 // Whole passes over a picture, for the benchmark in bench/ to call from C.
+#![tactic(auto)]
+
 ghost use Rattle.std.specs.Prelude.{◌≡◌};
 ghost use Rattle.carrier.specs.Plain.{plain_rest, plain_codes, plain_sites};
 ghost use Rattle.corner.specs.Channels.{counted};

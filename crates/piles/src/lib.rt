@@ -1,4 +1,6 @@
 // What is proved of every carrier holds of every pile: a carrier under any number of layers.
+#![tactic(auto)]
+
 ghost use Rattle.std.specs.Prelude.{◌≡◌, pos, IfOk, slice_index_or};
 ghost use Rattle.refusal.specs.Answers.{answer};
 ghost use Rattle.carrier.specs.Meaning.{Moves, Puts, accepting, put_answer, put_codes};

@@ -1,5 +1,7 @@
 // The numbered refusals. Every call that can refuse answers with one of these cases. The number by which users know a
 // case, and the values that it tells, are defined once, in specs/Numbers.antt.
+#![tactic(auto)]
+
 ghost use Rattle.std.specs.Prelude.{◌≡◌};
 ghost use Rattle.refusal.specs.Numbers.{number_of};
 

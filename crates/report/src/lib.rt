@@ -1,4 +1,6 @@
 // From the bytes of a picture file to the line of its survey.
+#![tactic(auto)]
+
 ghost use Rattle.std.specs.Prelude.{◌≡◌, drop, IfOk, string_bytes};
 ghost use Rattle.refusal.specs.Answers.{answer};
 ghost use Rattle.netpbm.specs.File.{IsPicture};

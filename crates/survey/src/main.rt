@@ -1,4 +1,6 @@
 // Reads a picture from standard input and writes the line of its survey.
+#![tactic(auto)]
+
 use report::report;
 use std::io::{Read, Write};
 

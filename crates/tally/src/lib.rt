@@ -1,4 +1,6 @@
 // The survey: which pair of values suits a mark on a carrier best.
+#![tactic(auto)]
+
 ghost use Rattle.std.specs.Prelude.{◌≡◌, ℕ, ◌+◌, ◌*◌, ◌<◌, length, if◌then◌else◌, slice_index};
 ghost use Rattle.carrier.specs.Meaning.{InRange};
 ghost use Rattle.mark.specs.Places.{same};

@@ -76,9 +76,9 @@ pub trait CarrierMut: Carrier {
 
 // The questions of a put of `v` at place `i`, for a bottom carrier: place `i`, where it takes `v`, and else the refusal.
 pub fn may_put<C: Carrier>(c: &C, i: usize, v: i32) -> Result<Place, Refusal>
-    ensures says { accepting (answer result) ≡ put_answer (level (rest c.now)) (sites (rest c.now)) (codes c.now) i v }
-    ensures codes { put_codes (sites (rest c.now)) (codes c.now) i v ≡ (if is_ok result then slice_set (codes c.now) i v else codes c.now) }
-    ensures there { IfOk result (λ at. Describes (sites (rest c.now)) (codes c.now) i at × (takes (site_of at) v ≡ true)) }
+    ensures says { accepting (answer result) ≡ put_answer (C.level (C.rest c.now)) (C.sites (C.rest c.now)) (C.codes c.now) i v }
+    ensures codes { put_codes (C.sites (C.rest c.now)) (C.codes c.now) i v ≡ (if is_ok result then slice_set (C.codes c.now) i v else C.codes c.now) }
+    ensures there { IfOk result (λ at. Describes (C.sites (C.rest c.now)) (C.codes c.now) i at × (takes (site_of at) v ≡ true)) }
 {
     let at = c.place(i)?;
     if !at.takes(v) {

@@ -102,10 +102,10 @@ impl<S: Samples> Carrier for Plain<S> {
 impl<S: SamplesMut> Plain<S> {
     // Makes `v`, which place `i` takes, its code.
     fn write(&mut self, i: usize, at: Place, v: i32)
-        requires there { Describes (plain_sites (plain_rest (Sample-as-Sample.value self.old.maximum) (S.Samples.values self.old.samples))) (plain_codes (S.Samples.values self.old.samples)) i at }
+        requires there { Describes (plain_sites (plain_rest (S.Sample.Sample.value self.old.maximum) (S.Samples.values self.old.samples))) (plain_codes (S.Samples.values self.old.samples)) i at }
         requires taken { takes (site_of at) v ≡ true }
-        ensures puts { Puts 0 (plain_sites (plain_rest (Sample-as-Sample.value self.old.maximum) (S.Samples.values self.old.samples))) i v (plain_codes (S.Samples.values self.old.samples)) (plain_codes (S.Samples.values self.new.samples)) (S.Samples.values self.old.samples) (S.Samples.values self.new.samples) (Ok result) }
-        ensures rest { plain_rest (Sample-as-Sample.value self.new.maximum) (S.Samples.values self.new.samples) ≡ plain_rest (Sample-as-Sample.value self.old.maximum) (S.Samples.values self.old.samples) }
+        ensures puts { Puts 0 (plain_sites (plain_rest (S.Sample.Sample.value self.old.maximum) (S.Samples.values self.old.samples))) i v (plain_codes (S.Samples.values self.old.samples)) (plain_codes (S.Samples.values self.new.samples)) (S.Samples.values self.old.samples) (S.Samples.values self.new.samples) (Ok result) }
+        ensures rest { plain_rest (S.Sample.Sample.value self.new.maximum) (S.Samples.values self.new.samples) ≡ plain_rest (S.Sample.Sample.value self.old.maximum) (S.Samples.values self.old.samples) }
         ensures lent { S.Samples.lent self.new.samples ≡ S.Samples.lent self.old.samples }
     {
         // the maximum is no more than a sample can hold

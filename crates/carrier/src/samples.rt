@@ -53,7 +53,7 @@ pub trait Samples {
 pub trait SamplesMut: Samples {
     // Makes `v` sample `i`. False, and nothing changed, where there is no such sample or it cannot hold `v`.
     fn store(&mut self, i: usize, v: i32) -> bool
-        ensures stored { Stored SamplesMut.Sample.Sample.widest i v (Self.Samples.values self.old) (Self.Samples.values self.new) result }
+        ensures stored { Stored Self.Sample.Sample.widest i v (Self.Samples.values self.old) (Self.Samples.values self.new) result }
         ensures lent { Self.Samples.lent self.new ≡ Self.Samples.lent self.old };
 }
 
@@ -63,7 +63,7 @@ impl Samples for &[u8] {
 
     ghost values = { λ s. s.now };
 
-    ghost lent = { λ s. s.ghost_name ∷ [] };
+    ghost lent = { λ s. [] };
 
     fn total(&self) -> usize {
         let bytes = *self;

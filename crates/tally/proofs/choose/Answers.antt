@@ -9,8 +9,8 @@ use Rattle.tally.proofs.choose.Goals as goal
 pub returns : goal.returns
 returns c =
     let xs = c.args.counts.now in
-    let p = c.first-in-peak.result in
-    let peak : p ≡ peak_at 255 xs = c.first-in-peak.ensures.value in
-    let r : c.first-in.result ≡ first_best Least (drop (suc p) xs) = c.first-in.ensures.value ∙ ap (first_best Least) (above xs 511 p c.requires) in
-    let zero : p + 1 + c.first-in.result ≡ zero_at 255 xs = omega (arith, r, ap (λ k. suc k + first_best Least (drop (suc k) xs)) peak) in
+    let p = c.first_in-peak.result in
+    let peak : p ≡ peak_at 255 xs = c.first_in-peak.ensures.value in
+    let r : c.first_in.result ≡ first_best Least (drop (suc p) xs) = c.first_in.ensures.value ∙ ap (first_best Least) (above xs 511 p c.requires) in
+    let zero : p + 1 + c.first_in.result ≡ zero_at 255 xs = omega (arith, r, ap (λ k. suc k + first_best Least (drop (suc k) xs)) peak) in
     record { peak = omega (arith, ints); zero = omega (arith, ints) }

@@ -19,7 +19,7 @@ loop-i-preserved g c =
     let mapped = flag_added c.loop-i.mapped c.from-mapped.result c.mapped.result (is_mapped peak zero (site_of at) at.code) c.from-mapped.ensures c.mapped.ensures in (
       counted_more _ sites codes paired c.loop-i.i c.loop-i.slots (c.loop-i.slots + c.from-slots.result) at told slots inv.0,
       counted_more _ sites codes paired c.loop-i.i c.loop-i.mapped (c.loop-i.mapped + c.from-mapped.result) at told mapped inv.1,
-      found_more _ sites codes paired c.loop-i.i c.loop-i.flag at c.at-top-flag.result told c.at-top-flag.ensures inv.2,
+      found_more _ sites codes paired c.loop-i.i c.loop-i.flag at c.at_top-flag.result told c.at_top-flag.ensures inv.2,
     )
 
 pub returns : goal.returns

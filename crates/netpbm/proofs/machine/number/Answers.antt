@@ -12,7 +12,7 @@ loop-at-init c = reads_none c.args.bytes.now
 pub loop-at-preserved : goal.loop-at-preserved
 loop-at-preserved c =
     reads_more c.loop-at.machine.state c.step.new.self.state c.loop-at.at c.args.bytes.now c.loop-at.invariant c.loop-at-test.true c.step.ensures
-    (live c.step.new.self.state c.in-default.not-Ended c.in-default.not-Failed)
+    (live c.step.new.self.state c.in_default.not-Ended c.in_default.not-Failed)
 
 pub returns-in-Ended : goal.returns-in-Ended
 returns-in-Ended c =
@@ -39,8 +39,8 @@ returns-in-Digits c =
       rest = omega arith;
     })
 
-pub returns-in-default-state : goal.returns-in-default-state
-returns-in-default-state c = record {
-  value = sym (reads_nothing c.loop-at.machine.state c.loop-at.at c.args.bytes.now c.loop-at.invariant c.loop-at-test.false c.in-default-state.not-Digits);
+pub returns-in_default-state : goal.returns-in_default-state
+returns-in_default-state c = record {
+  value = sym (reads_nothing c.loop-at.machine.state c.loop-at.at c.args.bytes.now c.loop-at.invariant c.loop-at-test.false c.in_default-state.not-Digits);
   rest = omega arith;
 }

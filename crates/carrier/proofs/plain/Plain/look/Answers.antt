@@ -8,5 +8,5 @@ returns-then-i-used g c = past _ _ (search rules)
 pub returns-in-Some : goal.returns-in-Some
 returns-in-Some g c =
     let got = c.in-Some.ensures in
-    let made = c.place-of.ensures in
+    let made = c.place_of.ensures in
     described _ _ _ _ _ (search rules) got.1 (search rules) (search rules) made.code (search rules)

@@ -2,8 +2,8 @@ use Rattle.std.proofs.Common.{rules}
 use Rattle.carrier.proofs.Putting.{stays}
 use Rattle.corner.proofs.corner.CornerCarrierMut.put.Goals as goal
 
-pub returns-in-err-at : goal.returns-in-err-at
-returns-in-err-at g c =
+pub returns-in_err-at : goal.returns-in_err-at
+returns-in_err-at g c =
     record {
       puts = record {
         says = search rules;

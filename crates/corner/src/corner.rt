@@ -98,7 +98,7 @@ impl<'a> Corner<&'a mut [u8]> {
 
 impl<S: Samples> Corner<S> {
     fn look(&self, i: usize) -> Option<Place>
-        ensures { Looked (corner_sites (corner_rest (Sample-as-Sample.value self.now.maximum) self.now.grid.width (channel_count self.now.grid.channels) (S.Samples.values self.now.samples))) (corner_codes self.now.grid.width (channel_count self.now.grid.channels) (S.Samples.values self.now.samples)) i result }
+        ensures { Looked (corner_sites (corner_rest (S.Sample.Sample.value self.now.maximum) self.now.grid.width (channel_count self.now.grid.channels) (S.Samples.values self.now.samples))) (corner_codes self.now.grid.width (channel_count self.now.grid.channels) (S.Samples.values self.now.samples)) i result }
     {
         let total = self.samples.used();
         let Some(spot) = self.grid.spot(i, total) else {
@@ -113,7 +113,7 @@ impl<S: Samples> Corner<S> {
 impl<S: Samples> Carrier for Corner<S> {
     ghost Rest = { CornerRest };
 
-    ghost rest = { λ p. corner_rest (Sample-as-Sample.value p.maximum) p.grid.width (channel_count p.grid.channels) (S.Samples.values p.samples) };
+    ghost rest = { λ p. corner_rest (S.Sample.Sample.value p.maximum) p.grid.width (channel_count p.grid.channels) (S.Samples.values p.samples) };
 
     ghost codes = { λ p. corner_codes p.grid.width (channel_count p.grid.channels) (S.Samples.values p.samples) };
 
@@ -125,7 +125,7 @@ impl<S: Samples> Carrier for Corner<S> {
 
     ghost lent = { λ p. S.Samples.lent p.samples };
 
-    ghost meaning = { corner_meaning (λ p. Sample-as-Sample.value p.maximum) (λ p. p.grid.width) (λ p. channel_count p.grid.channels) (λ p. S.Samples.values p.samples) };
+    ghost meaning = { corner_meaning (λ p. S.Sample.Sample.value p.maximum) (λ p. p.grid.width) (λ p. channel_count p.grid.channels) (λ p. S.Samples.values p.samples) };
 
     fn count(&self) -> usize {
         self.grid.count(self.samples.used())
@@ -149,10 +149,10 @@ impl<S: Samples> Carrier for Corner<S> {
 impl<S: SamplesMut> Corner<S> {
     // Makes `v`, which place `i` takes, its code.
     fn write(&mut self, i: usize, at: Place, v: i32)
-        requires there { Describes (corner_sites (corner_rest (Sample-as-Sample.value self.old.maximum) self.old.grid.width (channel_count self.old.grid.channels) (S.Samples.values self.old.samples))) (corner_codes self.old.grid.width (channel_count self.old.grid.channels) (S.Samples.values self.old.samples)) i at }
+        requires there { Describes (corner_sites (corner_rest (S.Sample.Sample.value self.old.maximum) self.old.grid.width (channel_count self.old.grid.channels) (S.Samples.values self.old.samples))) (corner_codes self.old.grid.width (channel_count self.old.grid.channels) (S.Samples.values self.old.samples)) i at }
         requires taken { takes (site_of at) v ≡ true }
-        ensures puts { Puts 0 (corner_sites (corner_rest (Sample-as-Sample.value self.old.maximum) self.old.grid.width (channel_count self.old.grid.channels) (S.Samples.values self.old.samples))) i v (corner_codes self.old.grid.width (channel_count self.old.grid.channels) (S.Samples.values self.old.samples)) (corner_codes self.new.grid.width (channel_count self.new.grid.channels) (S.Samples.values self.new.samples)) (S.Samples.values self.old.samples) (S.Samples.values self.new.samples) (Ok result) }
-        ensures rest { corner_rest (Sample-as-Sample.value self.new.maximum) self.new.grid.width (channel_count self.new.grid.channels) (S.Samples.values self.new.samples) ≡ corner_rest (Sample-as-Sample.value self.old.maximum) self.old.grid.width (channel_count self.old.grid.channels) (S.Samples.values self.old.samples) }
+        ensures puts { Puts 0 (corner_sites (corner_rest (S.Sample.Sample.value self.old.maximum) self.old.grid.width (channel_count self.old.grid.channels) (S.Samples.values self.old.samples))) i v (corner_codes self.old.grid.width (channel_count self.old.grid.channels) (S.Samples.values self.old.samples)) (corner_codes self.new.grid.width (channel_count self.new.grid.channels) (S.Samples.values self.new.samples)) (S.Samples.values self.old.samples) (S.Samples.values self.new.samples) (Ok result) }
+        ensures rest { corner_rest (S.Sample.Sample.value self.new.maximum) self.new.grid.width (channel_count self.new.grid.channels) (S.Samples.values self.new.samples) ≡ corner_rest (S.Sample.Sample.value self.old.maximum) self.old.grid.width (channel_count self.old.grid.channels) (S.Samples.values self.old.samples) }
         ensures lent { S.Samples.lent self.new.samples ≡ S.Samples.lent self.old.samples }
     {
         // the maximum is no more than a sample can hold

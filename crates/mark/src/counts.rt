@@ -24,9 +24,9 @@ struct Passed {
 impl Pair {
     // One pass over a carrier.
     fn pass<C: Carrier>(self, c: &C) -> Passed
-        ensures slots { result.slots ≡ places_with (is_slot self.peak self.zero) (sites (rest c.now)) (codes c.now) }
-        ensures mapped { result.mapped ≡ places_with (is_mapped self.peak self.zero) (sites (rest c.now)) (codes c.now) }
-        ensures flag { result.flag ≡ some_with (is_at_top self.peak self.zero) (sites (rest c.now)) (codes c.now) }
+        ensures slots { result.slots ≡ places_with (is_slot self.peak self.zero) (C.sites (C.rest c.now)) (C.codes c.now) }
+        ensures mapped { result.mapped ≡ places_with (is_mapped self.peak self.zero) (C.sites (C.rest c.now)) (C.codes c.now) }
+        ensures flag { result.flag ≡ some_with (is_at_top self.peak self.zero) (C.sites (C.rest c.now)) (C.codes c.now) }
     {
         let mut slots = 0usize;
         let mut mapped = 0usize;
@@ -46,8 +46,8 @@ impl Pair {
 
     // Slots and map bits of a mark with this pair on a carrier.
     pub fn counts_on<C: Carrier>(self, c: &C) -> Counts
-        ensures slots { result.slots ≡ slots self.peak self.zero (sites (rest c.now)) (codes c.now) }
-        ensures map_bits { result.map_bits ≡ map_bits_of self.peak self.zero (sites (rest c.now)) (codes c.now) }
+        ensures slots { result.slots ≡ slots self.peak self.zero (C.sites (C.rest c.now)) (C.codes c.now) }
+        ensures map_bits { result.map_bits ≡ map_bits_of self.peak self.zero (C.sites (C.rest c.now)) (C.codes c.now) }
     {
         let passed = self.pass(c);
         Counts {

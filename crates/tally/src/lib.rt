@@ -71,7 +71,7 @@ fn add(counts: &mut [u32], reach: u16, code: i32)
 // Counts how often each code from -reach to reach occurs, the smallest first. What the counts held before is gone.
 fn count_codes<C: Carrier>(c: &C, reach: u16, counts: &mut [u32])
     requires { length counts.old ≡ 2 * reach + 1 }
-    ensures { counts.new ≡ tally reach (sites (rest c.now)) (codes c.now) }
+    ensures { counts.new ≡ tally reach (C.sites (C.rest c.now)) (C.codes c.now) }
 {
     counts.fill(0);
     for i in 0..c.count() {
@@ -97,10 +97,10 @@ fn choose(counts: &[u32]) -> Pair
 
 // The pair for a carrier: one pass that tallies its codes.
 fn pair_for<C: Carrier>(c: &C) -> Pair
-    ensures peak { result.peak ≡ peak_of 255 (sites (rest c.now)) (codes c.now) }
-    ensures zero { result.zero ≡ zero_of 255 (sites (rest c.now)) (codes c.now) }
-    ensures is_peak { IsPeak 255 (sites (rest c.now)) (codes c.now) result.peak }
-    ensures is_zero { IsZero 255 (sites (rest c.now)) (codes c.now) result.peak result.zero }
+    ensures peak { result.peak ≡ peak_of 255 (C.sites (C.rest c.now)) (C.codes c.now) }
+    ensures zero { result.zero ≡ zero_of 255 (C.sites (C.rest c.now)) (C.codes c.now) }
+    ensures is_peak { IsPeak 255 (C.sites (C.rest c.now)) (C.codes c.now) result.peak }
+    ensures is_zero { IsZero 255 (C.sites (C.rest c.now)) (C.codes c.now) result.peak result.zero }
 {
     let mut counts = [0u32; CODES];
     count_codes(c, REACH, &mut counts);
@@ -110,9 +110,9 @@ fn pair_for<C: Carrier>(c: &C) -> Pair
 // The most frequent code up to 254 and the least frequent code above it, up to 255; of equals the smaller is taken.
 // With them, slots and map bits of a mark with this pair.
 pub fn survey<C: Carrier>(c: &C) -> Surveyed
-    ensures value { result ≡ surveyed 255 (sites (rest c.now)) (codes c.now) }
-    ensures peak { IsPeak 255 (sites (rest c.now)) (codes c.now) result.pair.peak }
-    ensures zero { IsZero 255 (sites (rest c.now)) (codes c.now) result.pair.peak result.pair.zero }
+    ensures value { result ≡ surveyed 255 (C.sites (C.rest c.now)) (C.codes c.now) }
+    ensures peak { IsPeak 255 (C.sites (C.rest c.now)) (C.codes c.now) result.pair.peak }
+    ensures zero { IsZero 255 (C.sites (C.rest c.now)) (C.codes c.now) result.pair.peak result.pair.zero }
 {
     let pair = pair_for(c);
     Surveyed {

@@ -10,12 +10,12 @@ some-channels : (n : Channels) → 0 < channel_count n
 some-channels One = omega arith
 some-channels Three = omega arith
 
-pub returns-then-p-ge-MOST-PLACES : goal.returns-then-p-ge-MOST-PLACES
-returns-then-p-ge-MOST-PLACES c =
+pub returns-then-p-ge-MOST_PLACES : goal.returns-then-p-ge-MOST_PLACES
+returns-then-p-ge-MOST_PLACES c =
     ⊎_elim
     (λ far. past_limit _ _ _ _ c.requires far)
     (λ h. past_blocks _ _ _ _ (omega (arith, h.1)))
-    c.then-p-ge-MOST-PLACES.either
+    c.then-p-ge-MOST_PLACES.either
 
 pub returns-then-upper-line : goal.returns-then-upper-line
 returns-then-upper-line c =

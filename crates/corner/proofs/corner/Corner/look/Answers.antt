@@ -3,19 +3,19 @@ use Rattle.corner.proofs.CornerPlaces.{past, seat_in, left_in, above_in, diagona
 use Rattle.corner.proofs.corner.Corner.look.Goals as goal
 
 pub returns-in_default : goal.returns-in_default
-returns-in_default g c = past _ _ _ _ (rw c.used_total.ensures at c.in_default.ensures)
+returns-in_default g c = past _ _ _ _ (rw c.used-total.ensures at c.in_default.ensures)
 
 pub prediction-m-requires : goal.prediction-m-requires
 prediction-m-requires g c =
-    let at = rw c.used_total.ensures at c.in-Some.ensures in
+    let at = rw c.used-total.ensures at c.in-Some.ensures in
     record { left = left_in _ _ _ _ _ at; above = above_in _ _ _ _ _ at; diagonal = diagonal_in _ _ _ _ _ at }
 
 pub known-v-requires : goal.known-v-requires
-known-v-requires g c = seat_in _ _ _ _ _ (rw c.used_total.ensures at c.in-Some.ensures)
+known-v-requires g c = seat_in _ _ _ _ _ (rw c.used-total.ensures at c.in-Some.ensures)
 
 pub returns : goal.returns
 returns g c =
-    let at = rw c.used_total.ensures at c.in-Some.ensures in
+    let at = rw c.used-total.ensures at c.in-Some.ensures in
     let high : g.Sample.Sample.value c.args.self.now.maximum < 65536 = subst (λ n. n < 65536) c.widen.ensures.value c.widen.type_inv in
     described _ _ _ _ c.in-Some.spot at _ c.known-v.result c.prediction-m.result c.place_of.result
     c.prediction-m.ensures c.known-v.ensures c.known-v.type_inv c.prediction-m.type_inv high c.place_of.ensures.code (search rules)

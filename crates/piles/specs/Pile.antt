@@ -1,6 +1,6 @@
 -- A window of a turn of a window of a corner carrier. Assumes nothing.
 use Rattle.std.specs.Prelude.{ℕ, List, ℤ}
-use Rattle.std.specs.Borrow.{Bor}
+use Rattle.std.specs.Borrow.{MutBor}
 use Rattle.carrier.specs.Meaning.{Site}
 use Rattle.corner.specs.declared.corner.Corner.{Corner}
 use Rattle.corner.specs.Channels.{channel_count}
@@ -11,7 +11,7 @@ use Rattle.layer.specs.Turn.{turned_codes, turned_sites}
 use Rattle.layer.specs.Window.{windowed}
 
 abbrev Picture : Type 0
-Picture = Corner (Bor (List ℕ)) ℕ
+Picture = Corner (MutBor (List ℕ)) ℕ
 
 abbrev pub Pile : Type 0
 Pile = Window (Turn (Window Picture))

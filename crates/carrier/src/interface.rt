@@ -43,10 +43,6 @@ pub trait Carrier {
     // The samples.
     ghost picture: { Self → List ℕ };
 
-    // The memory that it borrows, by the ghost names of the references that it holds. Whoever lent a slice learns from
-    // these names what it holds once the carrier is gone.
-    ghost lent: { Self → List ℕ };
-
     // The laws that an implementation shows.
     ghost meaning: { Meaning rest codes sites picture };
 
@@ -65,13 +61,17 @@ pub trait Carrier {
 
 // A carrier whose codes can be changed.
 pub trait CarrierMut: Carrier {
+    // The memory that it borrows, by the ghost names of the references that it holds. Whoever lent a slice learns from
+    // these names what it holds once the carrier is gone.
+    ghost lent: { Self → List ℕ };
+
     // Makes `v` the code of place `i`, where `v` is from low to high. The sample at its seat moves as far as the code
     // does; no other sample, no other code and nothing of the rest changes. Refused with 12 where there is no such
     // place, and with 13 where `v` is not from low to high; then nothing changes.
     fn put(&mut self, i: usize, v: i32) -> Result<(), Refusal>
         ensures puts { Puts (Self.Carrier.level (Self.Carrier.rest self.old)) (Self.Carrier.sites (Self.Carrier.rest self.old)) i v (Self.Carrier.codes self.old) (Self.Carrier.codes self.new) (Self.Carrier.picture self.old) (Self.Carrier.picture self.new) result }
         ensures rest { Self.Carrier.rest self.new ≡ Self.Carrier.rest self.old }
-        ensures lent { Self.Carrier.lent self.new ≡ Self.Carrier.lent self.old };
+        ensures lent { lent self.new ≡ lent self.old };
 }
 
 // The questions of a put of `v` at place `i`, for a bottom carrier: place `i`, where it takes `v`, and else the refusal.

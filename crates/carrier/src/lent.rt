@@ -18,8 +18,6 @@ impl<C: Carrier> Carrier for &mut C {
 
     ghost picture = { λ c. C.Carrier.picture c.now };
 
-    ghost lent = { λ c. c.ghost_name ∷ C.Carrier.lent c.now };
-
     ghost meaning = { meaning_through (λ c. c.now) C.Carrier.meaning };
 
     fn count(&self) -> usize {
@@ -36,6 +34,8 @@ impl<C: Carrier> Carrier for &mut C {
 }
 
 impl<C: CarrierMut> CarrierMut for &mut C {
+    ghost lent = { λ c. c.ghost_name ∷ C.CarrierMut.lent c.now };
+
     fn put(&mut self, i: usize, v: i32) -> Result<(), Refusal> {
         (**self).put(i, v)
     }

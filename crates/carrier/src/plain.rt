@@ -76,8 +76,6 @@ impl<S: Samples> Carrier for Plain<S> {
 
     ghost picture = { λ p. S.Samples.values p.samples };
 
-    ghost lent = { λ p. S.Samples.lent p.samples };
-
     ghost meaning = { plain_meaning (λ p. S.Sample.Sample.value p.maximum) (λ p. S.Samples.values p.samples) };
 
     fn count(&self) -> usize {
@@ -106,7 +104,7 @@ impl<S: SamplesMut> Plain<S> {
         requires taken { takes (site_of at) v ≡ true }
         ensures puts { Puts 0 (plain_sites (plain_rest (S.Sample.Sample.value self.old.maximum) (S.Samples.values self.old.samples))) i v (plain_codes (S.Samples.values self.old.samples)) (plain_codes (S.Samples.values self.new.samples)) (S.Samples.values self.old.samples) (S.Samples.values self.new.samples) (Ok result) }
         ensures rest { plain_rest (S.Sample.Sample.value self.new.maximum) (S.Samples.values self.new.samples) ≡ plain_rest (S.Sample.Sample.value self.old.maximum) (S.Samples.values self.old.samples) }
-        ensures lent { S.Samples.lent self.new.samples ≡ S.Samples.lent self.old.samples }
+        ensures lent { S.SamplesMut.lent self.new.samples ≡ S.SamplesMut.lent self.old.samples }
     {
         // the maximum is no more than a sample can hold
         let _ = self.maximum.widen();
@@ -115,6 +113,8 @@ impl<S: SamplesMut> Plain<S> {
 }
 
 impl<S: SamplesMut> CarrierMut for Plain<S> {
+    ghost lent = { λ p. S.SamplesMut.lent p.samples };
+
     fn put(&mut self, i: usize, v: i32) -> Result<(), Refusal> {
         let at = may_put(self, i, v)?;
         self.write(i, at, v);

@@ -5,6 +5,13 @@ ghost use Rattle.carrier.specs.Storing.{most, Stored};
 // The most samples that a carrier uses.
 const MOST: usize = 67_108_864;
 
+// `total` samples, or as many of them as a carrier uses.
+fn used(total: usize) -> usize
+    ensures { result ≡ min most total }
+{
+    total.min(MOST)
+}
+
 // The type of a sample: a number that is at most `widest`.
 pub trait Sample: Copy {
     ghost value: { Self → ℕ };
@@ -32,9 +39,6 @@ pub trait Samples {
 
     ghost values: { Self → List ℕ };
 
-    // The memory that it borrows, by the ghost names of its references.
-    ghost lent: { Self → List ℕ };
-
     fn total(&self) -> usize
         ensures { result ≡ length (values self.now) };
 
@@ -42,7 +46,7 @@ pub trait Samples {
     fn used(&self) -> usize
         ensures { result ≡ min most (length (values self.now)) }
     {
-        self.total().min(MOST)
+        used(self.total())
     }
 
     fn sample(&self, i: usize) -> Option<u16>
@@ -51,10 +55,13 @@ pub trait Samples {
 
 // Samples that can be changed.
 pub trait SamplesMut: Samples {
+    // The memory that they borrow, by the ghost names of its references.
+    ghost lent: { Self → List ℕ };
+
     // Makes `v` sample `i`. False, and nothing changed, where there is no such sample or it cannot hold `v`.
     fn store(&mut self, i: usize, v: i32) -> bool
         ensures stored { Stored Self.Sample.Sample.widest i v (Self.Samples.values self.old) (Self.Samples.values self.new) result }
-        ensures lent { Self.Samples.lent self.new ≡ Self.Samples.lent self.old };
+        ensures lent { lent self.new ≡ lent self.old };
 }
 
 // One byte a sample, in memory that is only read.
@@ -62,8 +69,6 @@ impl Samples for &[u8] {
     type Sample = u8;
 
     ghost values = { λ s. s.now };
-
-    ghost lent = { λ s. [] };
 
     fn total(&self) -> usize {
         let bytes = *self;
@@ -86,8 +91,6 @@ impl Samples for &mut [u8] {
 
     ghost values = { λ s. s.now };
 
-    ghost lent = { λ s. s.ghost_name ∷ [] };
-
     fn total(&self) -> usize {
         (*self).len()
     }
@@ -102,6 +105,8 @@ impl Samples for &mut [u8] {
 }
 
 impl SamplesMut for &mut [u8] {
+    ghost lent = { λ s. s.ghost_name ∷ [] };
+
     fn store(&mut self, i: usize, v: i32) -> bool {
         if i >= (*self).len() || v < 0 || v > 255 {
             return false;

@@ -123,8 +123,6 @@ impl<S: Samples> Carrier for Corner<S> {
 
     ghost picture = { λ p. S.Samples.values p.samples };
 
-    ghost lent = { λ p. S.Samples.lent p.samples };
-
     ghost meaning = { corner_meaning (λ p. S.Sample.Sample.value p.maximum) (λ p. p.grid.width) (λ p. channel_count p.grid.channels) (λ p. S.Samples.values p.samples) };
 
     fn count(&self) -> usize {
@@ -153,7 +151,7 @@ impl<S: SamplesMut> Corner<S> {
         requires taken { takes (site_of at) v ≡ true }
         ensures puts { Puts 0 (corner_sites (corner_rest (S.Sample.Sample.value self.old.maximum) self.old.grid.width (channel_count self.old.grid.channels) (S.Samples.values self.old.samples))) i v (corner_codes self.old.grid.width (channel_count self.old.grid.channels) (S.Samples.values self.old.samples)) (corner_codes self.new.grid.width (channel_count self.new.grid.channels) (S.Samples.values self.new.samples)) (S.Samples.values self.old.samples) (S.Samples.values self.new.samples) (Ok result) }
         ensures rest { corner_rest (S.Sample.Sample.value self.new.maximum) self.new.grid.width (channel_count self.new.grid.channels) (S.Samples.values self.new.samples) ≡ corner_rest (S.Sample.Sample.value self.old.maximum) self.old.grid.width (channel_count self.old.grid.channels) (S.Samples.values self.old.samples) }
-        ensures lent { S.Samples.lent self.new.samples ≡ S.Samples.lent self.old.samples }
+        ensures lent { S.SamplesMut.lent self.new.samples ≡ S.SamplesMut.lent self.old.samples }
     {
         // the maximum is no more than a sample can hold
         let _ = self.maximum.widen();
@@ -162,6 +160,8 @@ impl<S: SamplesMut> Corner<S> {
 }
 
 impl<S: SamplesMut> CarrierMut for Corner<S> {
+    ghost lent = { λ p. S.SamplesMut.lent p.samples };
+
     fn put(&mut self, i: usize, v: i32) -> Result<(), Refusal> {
         let at = may_put(self, i, v)?;
         self.write(i, at, v);

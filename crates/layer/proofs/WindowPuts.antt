@@ -108,26 +108,26 @@ rest_stays sites rest rest' start shown height i v codes codes' before after ans
     }
 
 -- all that a put of v at place i of a carrier ensures, where the put takes it from s to t
-abbrev PutDone : {S : Type 0} → Ghosts S → S → S → ℕ → ℤ → Result (Unit {0}) Refusal → Type 0
-PutDone c s t i v r =
+abbrev PutDone : {S : Type 0} → Ghosts S → (S → List ℕ) → S → S → ℕ → ℤ → Result (Unit {0}) Refusal → Type 0
+PutDone c lent s t i v r =
     record {
       puts : Puts (c.level (c.rest s)) (c.sites (c.rest s)) i v (c.codes s) (c.codes t) (c.picture s) (c.picture t) r;
       rest : c.rest t ≡ c.rest s;
-      lent : c.lent t ≡ c.lent s;
+      lent : lent t ≡ lent s;
     }
 
 -- all that a put of v at place i of a window ensures, where the put takes the carrier below from s to t
-abbrev WindowPutDone : {S : Type 0} → Ghosts S → ℕ → ℕ → S → S → ℕ → ℤ → Result (Unit {0}) Refusal → Type 0
-WindowPutDone c start shown s t i v r =
+abbrev WindowPutDone : {S : Type 0} → Ghosts S → (S → List ℕ) → ℕ → ℕ → S → S → ℕ → ℤ → Result (Unit {0}) Refusal → Type 0
+WindowPutDone c lent start shown s t i v r =
     record {
       puts : Puts (raised (c.level (c.rest s))) (windowed start shown (c.sites (c.rest s))) i v (windowed start shown (c.codes s)) (windowed start shown (c.codes t)) (c.picture s) (c.picture t) r;
       rest : window_rest c.sites (c.rest t) start shown (c.codes t) (c.picture t) ≡ window_rest c.sites (c.rest s) start shown (c.codes s) (c.picture s);
-      lent : c.lent t ≡ c.lent s;
+      lent : lent t ≡ lent s;
     }
 
 -- all that a put through a window ensures
-pub window_put : {S : Type 0} (c : Ghosts S) (start shown : ℕ) (s t : S) (i k : ℕ) (u v : ℤ) (answer : Result (Unit {0}) Refusal) → i < length (windowed start shown (c.codes s)) → k ≡ min (start + i) (2 ^ 64 - 1) → v ≡ u → PutDone c s t k v answer → WindowPutDone c start shown s t i u answer
-window_put c start shown s t i k u v answer there sum same done =
+pub window_put : {S : Type 0} (c : Ghosts S) (lent : S → List ℕ) (start shown : ℕ) (s t : S) (i k : ℕ) (u v : ℤ) (answer : Result (Unit {0}) Refusal) → i < length (windowed start shown (c.codes s)) → k ≡ min (start + i) (2 ^ 64 - 1) → v ≡ u → PutDone c lent s t k v answer → WindowPutDone c lent start shown s t i u answer
+window_put c lent start shown s t i k u v answer there sum same done =
     let few = c.meaning.few s in
     let paired = c.meaning.paired s in
     let inner = place_below start shown (c.codes s) i there in

@@ -76,8 +76,6 @@ impl<C: Carrier> Carrier for Turn<C> {
 
     ghost picture = { λ t. C.Carrier.picture t.below };
 
-    ghost lent = { λ t. C.Carrier.lent t.below };
-
     ghost meaning = { turn_meaning (λ t. t.below) C.Carrier.meaning };
 
     fn count(&self) -> usize {
@@ -108,6 +106,8 @@ fn negated(v: i32) -> i32
 }
 
 impl<C: CarrierMut> CarrierMut for Turn<C> {
+    ghost lent = { λ t. C.CarrierMut.lent t.below };
+
     fn put(&mut self, i: usize, v: i32) -> Result<(), Refusal> {
         let _at = asked(self, i)?;
         self.below.put(i, negated(v))

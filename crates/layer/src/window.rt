@@ -87,8 +87,6 @@ impl<C: Carrier> Carrier for Window<C> {
 
     ghost picture = { λ t. C.Carrier.picture t.below };
 
-    ghost lent = { λ t. C.Carrier.lent t.below };
-
     ghost meaning = { window_meaning (λ t. t.below) (λ t. t.start) (λ t. t.shown) C.Carrier.meaning };
 
     fn count(&self) -> usize {
@@ -117,13 +115,15 @@ impl<C: CarrierMut> Window<C> {
         requires number { k ≡ min (self.old.start + i) (2 ^ 64 - 1) }
         ensures puts { Puts (raised (C.Carrier.level (C.Carrier.rest self.old.below))) (windowed self.old.start self.old.shown (C.Carrier.sites (C.Carrier.rest self.old.below))) i v (windowed self.old.start self.old.shown (C.Carrier.codes self.old.below)) (windowed self.new.start self.new.shown (C.Carrier.codes self.new.below)) (C.Carrier.picture self.old.below) (C.Carrier.picture self.new.below) result }
         ensures rest { window_rest C.Carrier.sites (C.Carrier.rest self.new.below) self.new.start self.new.shown (C.Carrier.codes self.new.below) (C.Carrier.picture self.new.below) ≡ window_rest C.Carrier.sites (C.Carrier.rest self.old.below) self.old.start self.old.shown (C.Carrier.codes self.old.below) (C.Carrier.picture self.old.below) }
-        ensures lent { C.Carrier.lent self.new.below ≡ C.Carrier.lent self.old.below }
+        ensures lent { C.CarrierMut.lent self.new.below ≡ C.CarrierMut.lent self.old.below }
     {
         self.below.put(k, v)
     }
 }
 
 impl<C: CarrierMut> CarrierMut for Window<C> {
+    ghost lent = { λ t. C.CarrierMut.lent t.below };
+
     fn put(&mut self, i: usize, v: i32) -> Result<(), Refusal> {
         let _at = asked(self, i)?;
         let k = number_below(self.start, i);

@@ -21,7 +21,7 @@ pub fn exchange<C: CarrierMut>(c: &mut C, i: usize, v: i32) -> Result<i32, Refus
     ensures codes { C.Carrier.codes c.new ≡ put_codes (C.Carrier.sites (C.Carrier.rest c.old)) (C.Carrier.codes c.old) i v }
     ensures moves { Moves (C.Carrier.sites (C.Carrier.rest c.old)) i (C.Carrier.codes c.old) (C.Carrier.codes c.new) (C.Carrier.picture c.old) (C.Carrier.picture c.new) }
     ensures rest { C.Carrier.rest c.new ≡ C.Carrier.rest c.old }
-    ensures lent { C.Carrier.lent c.new ≡ C.Carrier.lent c.old }
+    ensures lent { C.CarrierMut.lent c.new ≡ C.CarrierMut.lent c.old }
 {
     let at = (*c).place(i)?;
     (*c).put(i, v)?;
@@ -53,7 +53,7 @@ pub fn put_in_window<C: CarrierMut>(
 ) -> Result<(), Refusal>
     ensures puts { Puts (raised (C.Carrier.level (C.Carrier.rest c.old))) (windowed start shown (C.Carrier.sites (C.Carrier.rest c.old))) i v (windowed start shown (C.Carrier.codes c.old)) (windowed start shown (C.Carrier.codes c.new)) (C.Carrier.picture c.old) (C.Carrier.picture c.new) result }
     ensures rest { window_rest C.Carrier.sites (C.Carrier.rest c.new) start shown (C.Carrier.codes c.new) (C.Carrier.picture c.new) ≡ window_rest C.Carrier.sites (C.Carrier.rest c.old) start shown (C.Carrier.codes c.old) (C.Carrier.picture c.old) }
-    ensures lent { C.Carrier.lent c.new ≡ C.Carrier.lent c.old }
+    ensures lent { C.CarrierMut.lent c.new ≡ C.CarrierMut.lent c.old }
 {
     let mut window = Window::over(c, start, shown);
     window.put(i, v)

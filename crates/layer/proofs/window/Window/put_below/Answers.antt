@@ -4,4 +4,4 @@ use Rattle.layer.proofs.window.Window.put_below.Goals as goal
 
 pub returns : goal.returns
 returns g c =
-    window_put g.C.Carrier _ _ _ _ _ _ _ _ _ c.requires.place c.requires.number (search rules) c.put.ensures
+    window_put g.C.Carrier g.C.CarrierMut.lent _ _ _ _ _ _ _ _ _ c.requires.place c.requires.number (search rules) c.put.ensures

@@ -1,5 +1,5 @@
 -- The samples of a picture and how one is changed. Assumes nothing.
-use Rattle.std.specs.Prelude.{◌≡◌, ℕ, ◌<◌, ◌≤◌, Bool, true, false, List, length, ℤ, pos, ◌≤ℤ◌, slice_set, unsigned_abs}
+use Rattle.std.specs.Prelude.{◌≡◌, ℕ, ◌<◌, Bool, true, false, List, length, ℤ, pos, ◌≤ℤ◌, slice_set, unsigned_abs}
 
 -- a carrier uses at most this many samples of its picture
 abbrev pub most : ℕ

@@ -1,5 +1,5 @@
 -- What the corner carrier says of its places. Assumes nothing.
-use Rattle.std.proofs.Common.{◌≡◌, ℕ, ◌+◌, ◌*◌, ◌<◌, ◌≤◌, min, Bool, true, List, map, length, get_or, set, ℤ, pos, ◌+ℤ◌, ◌-ℤ◌, neg_ℤ, nat_abs, sym, refl, ap, ◌∙◌, subst, ⊎_elim, arith}
+use Rattle.std.proofs.Common.{◌≡◌, ℕ, ◌<◌, ◌≤◌, min, Bool, true, List, map, length, get_or, set, ℤ, pos, ◌-ℤ◌, neg_ℤ, nat_abs, sym, ap, ◌∙◌, subst, ⊎_elim, arith}
 use Rattle.std.specs.List.{range_with_len}
 use Rattle.std.proofs.lemmas.List.{length-set, get_or-set_same, get_or-set_other, ext_get_or}
 use Rattle.std.proofs.lemmas.Int.{ints}
@@ -10,10 +10,10 @@ use Rattle.carrier.specs.Meaning.{Site, Describes, Moves, no_site, site_of, seat
 use Rattle.carrier.specs.Storing.{most, Holds, Stored}
 use Rattle.carrier.proofs.Putting.{taken, pos_nat_abs, stored, moved}
 use Rattle.corner.specs.declared.Spot.{Spot}
-use Rattle.corner.specs.Layout.{places, seat, left, above, diagonal, channel, block_row, block_column}
+use Rattle.corner.specs.Layout.{places, seat, left, above, diagonal}
 use Rattle.corner.specs.Predictor.{predicted}
-use Rattle.corner.specs.Corner.{CornerRest, corner_count, corner_seats, prediction, corner_site, corner_code, corner_sites, corner_codes, corner_rest}
-use Rattle.corner.specs.CornerMeaning.{length-corner_seats, corner_seat_at, length-corner_codes, corner_code_at, corner_site_at, count_of, count_others, same_prediction}
+use Rattle.corner.specs.Corner.{corner_count, corner_seats, prediction, corner_site, corner_code, corner_sites, corner_codes, corner_rest}
+use Rattle.corner.specs.CornerMeaning.{length-corner_seats, corner_seat_at, length-corner_codes, corner_code_at, corner_site_at, count_others, same_prediction}
 use Rattle.corner.specs.Numbering.{seat_below, seats_apart, left_no_seat, above_no_seat, diagonal_no_seat}
 use Rattle.corner.specs.Spots.{Located}
 use Rattle.corner.proofs.Locating.{left_before, above_before, diagonal_before}

@@ -1,5 +1,5 @@
 -- The four samples of a place, as they are computed. Assumes nothing.
-use Rattle.std.proofs.Common.{◌≡◌, ℕ, ◌+◌, ◌*◌, ◌<◌, ◌≤◌, sym, ap, ◌∙◌, ⊎_elim, mul_assoc, add-mul, mul-pos, one-mul, arith}
+use Rattle.std.proofs.Common.{◌≡◌, ℕ, ◌+◌, ◌*◌, ◌<◌, ◌≤◌, sym, ap, ⊎_elim, mul_assoc, add-mul, mul-pos, one-mul, arith}
 use Rattle.std.proofs.lemmas.Bool.{cases_lt}
 use Rattle.carrier.specs.Storing.{most}
 use Rattle.corner.specs.declared.Spot.{Spot}

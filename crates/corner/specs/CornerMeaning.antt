@@ -1,5 +1,5 @@
 -- That the corner carrier has the meaning of a carrier. Assumes nothing.
-use Rattle.std.specs.Prelude.{◌≡◌, ℕ, ◌<◌, ◌≤◌, min, List, map, length, ℤ, pos, ◌+ℤ◌, ◌≢◌, slice_index, slice_index_or, unsigned_abs, refl}
+use Rattle.std.specs.Prelude.{◌≡◌, ℕ, ◌<◌, min, List, map, length, ℤ, pos, ◌+ℤ◌, ◌≢◌, slice_index, slice_index_or, unsigned_abs}
 use Rattle.std.proofs.Common.{sym, subst, ◌∙◌, arith}
 use Rattle.std.proofs.Math.Path.{ap}
 use Rattle.std.specs.List.{range_with_len}

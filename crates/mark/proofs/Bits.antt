@@ -1,5 +1,5 @@
 -- `==` of two signed numbers, which compares their bits, is `same`. Assumes nothing.
-use Rattle.std.proofs.Common.{◌≡◌, ℕ, zero, suc, ◌<◌, ◌&&◌, eqb, leb, ℤ, pos, negsuc, ◌+ℤ◌, ◌≤ℤ◌, arith, w32, SFits, of_z}
+use Rattle.std.proofs.Common.{◌≡◌, zero, suc, eqb, ℤ, pos, negsuc, ◌+ℤ◌, ◌≤ℤ◌, arith, w32, SFits, of_z}
 use Rattle.std.proofs.lemmas.Int.{ints}
 use Rattle.std.proofs.lemmas.Bool.Decides.{nat_tests}
 use Rattle.mark.specs.Places.{same}

@@ -1,5 +1,5 @@
 -- A pass over a carrier that counts: what is counted so far and what is left make up the whole. Assumes nothing.
-use Rattle.std.proofs.Common.{◌≡◌, ℕ, ◌+◌, ◌<◌, ◌≤◌, Bool, true, false, cond, ◌||◌, List, [], ◌∷◌, length, get_or, drop, ℤ, pos, sym, refl, ap, ◌∙◌, add-zero, add_assoc, zero-add, arith}
+use Rattle.std.proofs.Common.{◌≡◌, ℕ, ◌+◌, ◌<◌, ◌≤◌, Bool, true, false, cond, ◌||◌, List, length, drop, ℤ, pos, sym, refl, ap, ◌∙◌, add-zero, add_assoc, zero-add, arith}
 use mir.Val.{bool_byte}
 use Rattle.std.proofs.lemmas.List.{drop_more, drop_all}
 use Rattle.carrier.specs.declared.interface.Place.{Place}

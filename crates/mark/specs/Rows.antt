@@ -1,5 +1,5 @@
 -- What a mark finds in a row of places, by its sites and its codes. Assumes nothing.
-use Rattle.std.specs.Prelude.{ℕ, ◌+◌, Bool, true, false, cond, ◌||◌, List, [], ◌∷◌, ℤ}
+use Rattle.std.specs.Prelude.{ℕ, ◌+◌, Bool, false, cond, ◌||◌, List, [], ◌∷◌, ℤ}
 use Rattle.carrier.specs.Meaning.{Site}
 use Rattle.mark.specs.Places.{is_at_top, is_slot, is_mapped}
 

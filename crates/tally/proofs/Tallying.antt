@@ -1,12 +1,11 @@
 -- A pass that tallies the codes of a carrier. Assumes nothing.
-use Rattle.std.proofs.Common.{◌≡◌, ℕ, ◌+◌, ◌*◌, ◌<◌, ◌≤◌, cond, List, map, length, get_or, replicate, ℤ, sym, ap, ◌∙◌, ⊎_elim, arith}
+use Rattle.std.proofs.Common.{◌≡◌, ℕ, ◌+◌, ◌*◌, ◌<◌, ◌≤◌, cond, List, length, get_or, replicate, ℤ, ap, ◌∙◌, ⊎_elim, arith}
 use lib.ListN.{length-replicate}
-use Rattle.std.specs.List.{range_with_len}
 use Rattle.std.proofs.lemmas.List.FromFn.{fill_by_all}
 use Rattle.std.proofs.lemmas.List.{get_or_past, get_or-replicate}
 use Rattle.std.proofs.lemmas.Bool.{cases_lt}
 use Rattle.carrier.specs.declared.interface.Place.{Place}
-use Rattle.carrier.specs.Meaning.{Site, Describes, site_of}
+use Rattle.carrier.specs.Meaning.{Site, Describes}
 use Rattle.mark.specs.Places.{same}
 use Rattle.mark.proofs.Passes.{Counted, counted_none, counted_more, counted_all}
 use Rattle.tally.specs.Tally.{has_code, occurs, tallied, tally}

@@ -1,4 +1,4 @@
-use Rattle.std.proofs.Common.{◌≡◌, ◌<◌, length, refl, arith, w32, SFits, rules}
+use Rattle.std.proofs.Common.{◌<◌, length, arith, w32, SFits, rules}
 use Rattle.std.proofs.lemmas.Int.{ints, to_z-of_z}
 use Rattle.tally.proofs.Tallying.{tallied_none, tallied_room, tallied_more, tallied_all}
 use Rattle.tally.proofs.count_codes.Goals as goal

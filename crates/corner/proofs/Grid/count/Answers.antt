@@ -1,5 +1,4 @@
-use Rattle.std.proofs.Common.{◌≤◌, arith, rules}
-use Rattle.corner.specs.Layout.{places}
+use Rattle.std.proofs.Common.{rules}
 use Rattle.corner.specs.Numbering.{four_to_a_place}
 use Rattle.corner.proofs.Grid.count.Goals as goal
 

@@ -1,4 +1,4 @@
-use Rattle.std.proofs.Common.{sym, ◌∙◌, arith}
+use Rattle.std.proofs.Common.{arith}
 use Rattle.carrier.specs.PlainMeaning.{length-plain_codes}
 use Rattle.carrier.proofs.plain.PlainCarrier.count.Goals as goal
 

@@ -1,6 +1,5 @@
 -- What every carrier has and obeys. Assumes nothing.
-use Rattle.std.specs.Prelude.{◌≡◌, ℕ, ◌<◌, ◌≤◌, Bool, cond, ◌&&◌, List, [], ◌∷◌, length, get_or, ℤ, pos, ◌-ℤ◌, neg_ℤ, ◌≤ℤ◌, Option, Result, MatchResult, ◌≢◌, int_le, nat_lt, slice_index, slice_index_or, slice_set, unsigned_abs}
-use Rattle.std.specs.Option as options
+use Rattle.std.specs.Prelude.{◌≡◌, ℕ, ◌<◌, ◌≤◌, Bool, cond, ◌&&◌, List, [], ◌∷◌, length, get_or, ℤ, pos, ◌-ℤ◌, neg_ℤ, ◌≤ℤ◌, Option, Result, MatchOption, MatchResult, ◌≢◌, int_le, nat_lt, slice_index, slice_index_or, slice_set, unsigned_abs}
 use Rattle.refusal.specs.declared.Refusal.{Refusal}
 use Rattle.refusal.specs.Numbers.{Says}
 use Rattle.refusal.specs.Answers.{Answer, accepted, refused, answer, tells}
@@ -61,7 +60,7 @@ pub record Describes (sites : List Site) (codes : List ℤ) (i : ℕ) (p : Place
 
 -- p is what a carrier says of place i, or there is no such place
 abbrev pub Looked : List Site → List ℤ → ℕ → Option Place → Type 0
-Looked sites codes i r = options.MatchOption r (length codes ≤ i) (Describes sites codes i)
+Looked sites codes i r = MatchOption r (length codes ≤ i) (Describes sites codes i)
 
 -- the answer to a question for place i: what the place has, or refusal 12 with the height of the carrier asked and
 -- the place named

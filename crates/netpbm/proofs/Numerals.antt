@@ -1,6 +1,6 @@
 -- `number` reads a gap and then a numeral, and it reads every gap and numeral. Assumes nothing.
 use Rattle.std.proofs.Common.{◌≡◌, ℕ, ◌+◌, ◌≤◌, Bool, true, false, cond, not, ◌&&◌, ◌||◌, eqb, leb, ◌⊎◌, List, [], ◌∷◌, ◌++◌, length, take, drop, Some, None, Option, sym, refl, ap, ◌∙◌, subst, inl, inr, ⊎_elim, append_assoc, append-nil, one-add, arith, length-append, take-append-drop}
-use Rattle.std.specs.List.{prefix_len, AllByRecursion as All}
+use Rattle.std.specs.List.{prefix_len, AllByRecursion}
 use Rattle.std.proofs.lemmas.List.{take_at, drop_at, length-take-le}
 use Rattle.std.proofs.lemmas.List.Sums.{prefix_len-le-length}
 use Rattle.std.proofs.lemmas.Bool.{le-leb, leb-true, eqb-true, eqb-false, ne_eqb, and_parts, or_parts, or_left, false≢true}
@@ -20,11 +20,11 @@ digit_no_gap b d = grind (arith, nat_tests)
 -- SOUND: what is read stands there
 
 -- the bytes counted as digits are digits: one byte more, and all
-leading_more : (b : ℕ) (bs : List ℕ) (t : Bool) → digit b ≡ t → All (λ d. digit d ≡ true) (take (prefix_len digit bs) bs) → All (λ d. digit d ≡ true) (take (cond t (1 + prefix_len digit bs) 0) (b ∷ bs))
+leading_more : (b : ℕ) (bs : List ℕ) (t : Bool) → digit b ≡ t → AllByRecursion (λ d. digit d ≡ true) (take (prefix_len digit bs) bs) → AllByRecursion (λ d. digit d ≡ true) (take (cond t (1 + prefix_len digit bs) 0) (b ∷ bs))
 leading_more b bs true e h = rw (one-add (prefix_len digit bs)) (e, h)
 leading_more b bs false e h = tt
 
-leading_digits : (bs : List ℕ) → All (λ d. digit d ≡ true) (take (prefix_len digit bs) bs)
+leading_digits : (bs : List ℕ) → AllByRecursion (λ d. digit d ≡ true) (take (prefix_len digit bs) bs)
 leading_digits [] = tt
 leading_digits (b ∷ bs) = leading_more b bs (digit b) refl (leading_digits bs)
 
@@ -69,7 +69,7 @@ blanks_more x (inr y) = more x y
 -- bs is blanks and then the rest; inside a comment, its end comes first
 abbrev Skips : Bool → List ℕ → List ℕ → Type 0
 Skips false bs rest = (g : List ℕ) × (bs ≡ g ++ rest) × Blanks g
-Skips true bs rest = (text : List ℕ) × (g : List ℕ) × All (λ b. b ≡ 10 → ⊥) text × (bs ≡ text ++ 10 ∷ (g ++ rest)) × Blanks g
+Skips true bs rest = (text : List ℕ) × (g : List ℕ) × AllByRecursion (λ b. b ≡ 10 → ⊥) text × (bs ≡ text ++ 10 ∷ (g ++ rest)) × Blanks g
 
 -- what `after_gap` passes over is blanks, or it comes to the end
 abbrev Passes : Bool → List ℕ → Type 0
@@ -152,7 +152,7 @@ Stops [] = Unit {0}
 Stops (b ∷ bs) = digit b ≡ false
 
 -- digits are counted up to the rest
-leading_all : (ds rest : List ℕ) → All (λ d. digit d ≡ true) ds → Stops rest → prefix_len digit (ds ++ rest) ≡ length ds
+leading_all : (ds rest : List ℕ) → AllByRecursion (λ d. digit d ≡ true) ds → Stops rest → prefix_len digit (ds ++ rest) ≡ length ds
 leading_all [] [] all stop = refl
 leading_all [] (b ∷ bs) all stop = rw stop
 leading_all (d ∷ ds) rest all stop = rw (all.0, leading_all ds rest all.1 stop, one-add (length ds))
@@ -166,7 +166,7 @@ digits_complete ds rest v n stop =
     rw (leading_all ds rest n.digits stop, low, high, take_at ds rest (length ds) refl, drop_at ds rest (length ds) refl) (ap (λ m. Some (m, rest)) n.written)
 
 -- a comment is passed over up to its end
-comment_passed : (text bs : List ℕ) → All (λ b. b ≡ 10 → ⊥) text → after_gap true ((text ++ 10 ∷ []) ++ bs) ≡ after_gap false bs
+comment_passed : (text bs : List ℕ) → AllByRecursion (λ b. b ≡ 10 → ⊥) text → after_gap true ((text ++ 10 ∷ []) ++ bs) ≡ after_gap false bs
 unfolding after_gap
 comment_passed [] bs all = refl
 comment_passed (b ∷ text) bs all = ap (λ t. after_gap (not t) ((text ++ 10 ∷ []) ++ bs)) (ne_eqb b 10 all.0) ∙ comment_passed text bs all.1

@@ -1,6 +1,6 @@
 -- `reading` accepts a file with a header exactly if the file is a picture with that header. Assumes nothing.
 use Rattle.std.proofs.Common.{◌≡◌, ℕ, suc, ◌+◌, ◌-◌, ◌*◌, ◌≤◌, Bool, true, false, cond, ◌&&◌, eqb, leb, List, [], ◌∷◌, ◌++◌, length, drop, Some, None, Option, sym, refl, ap, ◌∙◌, subst, one-add, arith, length-append}
-use Rattle.std.specs.List.{prefix_len, AllByRecursion as All}
+use Rattle.std.specs.List.{prefix_len, AllByRecursion}
 use Rattle.std.proofs.lemmas.Bool.{le-leb, leb-true, eqb-true, eq-eqb, and_parts, and_from}
 use Rattle.refusal.specs.Answers.{Answer, accepted, given, holds, none_found}
 use Rattle.netpbm.specs.declared.Header.{Header}
@@ -69,20 +69,20 @@ channels_complete rest grey = (refl, refl)
 channels_complete rest colour = (refl, refl)
 
 -- all samples are counted as low exactly if none is above the maximum
-all_low : (m : ℕ) (xs : List ℕ) → prefix_len (low m) xs ≡ length xs → All (λ s. s ≤ m) xs
+all_low : (m : ℕ) (xs : List ℕ) → prefix_len (low m) xs ≡ length xs → AllByRecursion (λ s. s ≤ m) xs
 all_low m [] e = tt
 all_low m (x ∷ xs) e = go (leb x m) refl e (all_low m xs)
   where
-    go : (t : Bool) → leb x m ≡ t → cond t (1 + prefix_len (low m) xs) 0 ≡ suc (length xs) → (prefix_len (low m) xs ≡ length xs → All (λ s. s ≤ m) xs) → All (λ s. s ≤ m) (x ∷ xs)
+    go : (t : Bool) → leb x m ≡ t → cond t (1 + prefix_len (low m) xs) 0 ≡ suc (length xs) → (prefix_len (low m) xs ≡ length xs → AllByRecursion (λ s. s ≤ m) xs) → AllByRecursion (λ s. s ≤ m) (x ∷ xs)
     go true t q more = (leb-true x m t, more (omega arith))
     go false t q more = absurd (omega arith)
 
-low_all : (m : ℕ) (xs : List ℕ) → All (λ s. s ≤ m) xs → prefix_len (low m) xs ≡ length xs
+low_all : (m : ℕ) (xs : List ℕ) → AllByRecursion (λ s. s ≤ m) xs → prefix_len (low m) xs ≡ length xs
 low_all m [] h = refl
 low_all m (x ∷ xs) h = rw (le-leb x m h.0, low_all m xs h.1, one-add (length xs))
 
 -- the same of the first sample above it
-above_sound : (m : ℕ) (xs : List ℕ) → first_above m xs ≡ None → All (λ s. s ≤ m) xs
+above_sound : (m : ℕ) (xs : List ℕ) → first_above m xs ≡ None → AllByRecursion (λ s. s ≤ m) xs
 unfolding first_above
 above_sound m xs e = all_low m xs (go (eqb (prefix_len (low m) xs) (length xs)) refl e)
   where
@@ -90,7 +90,7 @@ above_sound m xs e = all_low m xs (go (eqb (prefix_len (low m) xs) (length xs)) 
     go true t q = eqb-true (prefix_len (low m) xs) (length xs) t
     go false t q = absurd (let z : ◌≡◌ {A = ℕ} 0 1 = cc in omega arith)
 
-above_complete : (m : ℕ) (xs : List ℕ) → All (λ s. s ≤ m) xs → first_above m xs ≡ None
+above_complete : (m : ℕ) (xs : List ℕ) → AllByRecursion (λ s. s ≤ m) xs → first_above m xs ≡ None
 unfolding first_above
 above_complete m xs h = rw (low_all m xs h, eq-eqb (length xs) (length xs) refl)
 
@@ -184,7 +184,7 @@ reading_sound file hd e =
 -- the questions after the numbers, where each holds
 passed : (hd : Header) (all blank : ℕ) (samples : List ℕ)
     → white blank ≡ true → (1 ≤ hd.width) × (hd.width ≤ 4096) → (1 ≤ hd.height) × (hd.height ≤ 4096) → (1 ≤ hd.maximum) × (hd.maximum ≤ 255)
-    → length samples ≡ hd.width * hd.height * hd.channels → All (λ s. s ≤ hd.maximum) samples → hd.length + length samples ≡ all
+    → length samples ≡ hd.width * hd.height * hd.channels → AllByRecursion (λ s. s ≤ hd.maximum) samples → hd.length + length samples ≡ all
     → asked all hd.channels hd.width hd.height hd.maximum (blank ∷ samples) ≡ accepted hd
 passed hd all blank samples wb w h m exact low long =
     let sides : (side hd.width && side hd.height) ≡ true =

@@ -1,13 +1,13 @@
 -- What a picture file is, as a relation between its bytes and its numbers. Assumes nothing.
 use Rattle.std.specs.Prelude.{◌≡◌, ℕ, ◌+◌, ◌*◌, ◌≤◌, true, List, [], ◌∷◌, ◌++◌, length, ◌≢◌}
-use Rattle.std.specs.List.{AllByRecursion as All}
+use Rattle.std.specs.List.{AllByRecursion}
 use Rattle.netpbm.specs.declared.Header.{Header}
 use Rattle.netpbm.specs.Bytes.{white, digit, value}
 
 -- a white byte, or a comment: byte 35, any bytes but 10, and byte 10
 pub data Blank : List ℕ → Type 0 where
   space : (b : ℕ) → white b ≡ true → Blank (b ∷ [])
-  comment : (text : List ℕ) → All (λ b. b ≢ 10) text → Blank (35 ∷ (text ++ 10 ∷ []))
+  comment : (text : List ℕ) → AllByRecursion (λ b. b ≢ 10) text → Blank (35 ∷ (text ++ 10 ∷ []))
 
 -- one or more of these
 pub data Gap : List ℕ → Type 0 where
@@ -16,7 +16,7 @@ pub data Gap : List ℕ → Type 0 where
 
 -- one to five digits that write the number n
 pub record Numeral (ds : List ℕ) (n : ℕ) : Type 0 where
-  pub digits : All (λ d. digit d ≡ true) ds
+  pub digits : AllByRecursion (λ d. digit d ≡ true) ds
   pub some : 1 ≤ length ds
   pub few : length ds ≤ 5
   pub written : value ds ≡ n
@@ -53,5 +53,5 @@ pub record IsPicture (file : List ℕ) (h : Header) : Type 0 where
   pub maximum_low : 1 ≤ h.maximum
   pub maximum_high : h.maximum ≤ 255
   pub exact : length samples ≡ h.width * h.height * h.channels
-  pub none_above : All (λ s. s ≤ h.maximum) samples
+  pub none_above : AllByRecursion (λ s. s ≤ h.maximum) samples
   pub header_length : h.length + length samples ≡ length file

@@ -21,10 +21,11 @@ fn place_of(v: u16, maximum: u16, i: usize) -> Place
     }
 }
 
+// A picture that is written has a maximum of the type of its samples, `M`, so that each of them can be it.
 #[derive(Drop)]
-pub struct Plain<S: Samples> {
+pub struct Plain<S, M = u16> {
     samples: S,
-    maximum: S::Sample,
+    maximum: M,
 }
 
 impl<'a> Plain<&'a [u8]> {
@@ -34,24 +35,27 @@ impl<'a> Plain<&'a [u8]> {
         ensures picture { result.samples.now ≡ samples.now }
         ensures maximum { result.maximum ≡ maximum }
     {
-        Plain { samples, maximum }
+        Plain {
+            samples,
+            maximum: u16::from(maximum),
+        }
     }
 }
 
-impl<'a> Plain<&'a mut [u8]> {
+impl<'a> Plain<&'a mut [u8], u8> {
     // The same on a picture that can be written.
-    pub fn writing(samples: &'a mut [u8], maximum: u8) -> Plain<&'a mut [u8]>
+    pub fn writing(samples: &'a mut [u8], maximum: u8) -> Plain<&'a mut [u8], u8>
         ensures picture { result.samples.now ≡ samples.old }
         ensures lender { result.samples.ghost_name ≡ samples.entry.ghost_name }
         ensures maximum { result.maximum ≡ maximum }
     {
-        Plain { maximum, samples }
+        Plain { samples, maximum }
     }
 }
 
-impl<S: Samples> Plain<S> {
+impl<S: Samples, M: Sample> Plain<S, M> {
     fn look(&self, i: usize) -> Option<Place>
-        ensures { Looked (plain_sites (plain_rest (S.Sample.Sample.value self.now.maximum) (S.Samples.values self.now.samples))) (plain_codes (S.Samples.values self.now.samples)) i result }
+        ensures { Looked (plain_sites (plain_rest (M.value self.now.maximum) (S.Samples.values self.now.samples))) (plain_codes (S.Samples.values self.now.samples)) i result }
     {
         if i >= self.samples.used() {
             return None;
@@ -63,10 +67,10 @@ impl<S: Samples> Plain<S> {
     }
 }
 
-impl<S: Samples> Carrier for Plain<S> {
+impl<S: Samples, M: Sample> Carrier for Plain<S, M> {
     ghost Rest = { PlainRest };
 
-    ghost rest = { λ p. plain_rest (S.Sample.Sample.value p.maximum) (S.Samples.values p.samples) };
+    ghost rest = { λ p. plain_rest (M.value p.maximum) (S.Samples.values p.samples) };
 
     ghost codes = { λ p. plain_codes (S.Samples.values p.samples) };
 
@@ -76,7 +80,7 @@ impl<S: Samples> Carrier for Plain<S> {
 
     ghost picture = { λ p. S.Samples.values p.samples };
 
-    ghost meaning = { plain_meaning (λ p. S.Sample.Sample.value p.maximum) (λ p. S.Samples.values p.samples) };
+    ghost meaning = { plain_meaning (λ p. M.value p.maximum) (λ p. S.Samples.values p.samples) };
 
     fn count(&self) -> usize {
         self.samples.used()
@@ -97,13 +101,13 @@ impl<S: Samples> Carrier for Plain<S> {
     }
 }
 
-impl<S: SamplesMut> Plain<S> {
+impl<M: Sample, S: SamplesMut<M>> Plain<S, M> {
     // Makes `v`, which place `i` takes, its code.
     fn write(&mut self, i: usize, at: Place, v: i32)
-        requires there { Describes (plain_sites (plain_rest (S.Sample.Sample.value self.old.maximum) (S.Samples.values self.old.samples))) (plain_codes (S.Samples.values self.old.samples)) i at }
+        requires there { Describes (plain_sites (plain_rest (M.value self.old.maximum) (S.Samples.values self.old.samples))) (plain_codes (S.Samples.values self.old.samples)) i at }
         requires taken { takes (site_of at) v ≡ true }
-        ensures puts { Puts 0 (plain_sites (plain_rest (S.Sample.Sample.value self.old.maximum) (S.Samples.values self.old.samples))) i v (plain_codes (S.Samples.values self.old.samples)) (plain_codes (S.Samples.values self.new.samples)) (S.Samples.values self.old.samples) (S.Samples.values self.new.samples) (Ok result) }
-        ensures rest { plain_rest (S.Sample.Sample.value self.new.maximum) (S.Samples.values self.new.samples) ≡ plain_rest (S.Sample.Sample.value self.old.maximum) (S.Samples.values self.old.samples) }
+        ensures puts { Puts 0 (plain_sites (plain_rest (M.value self.old.maximum) (S.Samples.values self.old.samples))) i v (plain_codes (S.Samples.values self.old.samples)) (plain_codes (S.Samples.values self.new.samples)) (S.Samples.values self.old.samples) (S.Samples.values self.new.samples) (Ok result) }
+        ensures rest { plain_rest (M.value self.new.maximum) (S.Samples.values self.new.samples) ≡ plain_rest (M.value self.old.maximum) (S.Samples.values self.old.samples) }
         ensures lent { S.SamplesMut.lent self.new.samples ≡ S.SamplesMut.lent self.old.samples }
     {
         // the maximum is no more than a sample can hold
@@ -112,7 +116,7 @@ impl<S: SamplesMut> Plain<S> {
     }
 }
 
-impl<S: SamplesMut> CarrierMut for Plain<S> {
+impl<M: Sample, S: SamplesMut<M>> CarrierMut for Plain<S, M> {
     ghost lent = { λ p. S.SamplesMut.lent p.samples };
 
     fn put(&mut self, i: usize, v: i32) -> Result<(), Refusal> {

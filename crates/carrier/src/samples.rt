@@ -33,10 +33,18 @@ impl Sample for u8 {
     }
 }
 
+impl Sample for u16 {
+    ghost value = { λ s. s };
+
+    ghost widest = { 65535 };
+
+    fn widen(self) -> u16 {
+        self
+    }
+}
+
 // The samples of a picture, in the order of the file.
 pub trait Samples {
-    type Sample: Sample;
-
     ghost values: { Self → List ℕ };
 
     fn total(&self) -> usize
@@ -53,21 +61,19 @@ pub trait Samples {
         ensures { MatchOption result (length (values self.now) ≤ i) (λ v. (i < length (values self.now)) × (v ≡ slice_index (values self.now) i)) };
 }
 
-// Samples that can be changed.
-pub trait SamplesMut: Samples {
+// Samples that can be changed, each of type `M`.
+pub trait SamplesMut<M: Sample>: Samples {
     // The memory that they borrow, by the ghost names of its references.
     ghost lent: { Self → List ℕ };
 
     // Makes `v` sample `i`. False, and nothing changed, where there is no such sample or it cannot hold `v`.
     fn store(&mut self, i: usize, v: i32) -> bool
-        ensures stored { Stored Self.Sample.Sample.widest i v (Self.Samples.values self.old) (Self.Samples.values self.new) result }
+        ensures stored { Stored M.widest i v (Self.Samples.values self.old) (Self.Samples.values self.new) result }
         ensures lent { lent self.new ≡ lent self.old };
 }
 
 // One byte a sample, in memory that is only read.
 impl Samples for &[u8] {
-    type Sample = u8;
-
     ghost values = { λ s. s.now };
 
     fn total(&self) -> usize {
@@ -87,8 +93,6 @@ impl Samples for &[u8] {
 
 // One byte a sample, in memory that can be written.
 impl Samples for &mut [u8] {
-    type Sample = u8;
-
     ghost values = { λ s. s.now };
 
     fn total(&self) -> usize {
@@ -104,7 +108,7 @@ impl Samples for &mut [u8] {
     }
 }
 
-impl SamplesMut for &mut [u8] {
+impl SamplesMut<u8> for &mut [u8] {
     ghost lent = { λ s. s.ghost_name ∷ [] };
 
     fn store(&mut self, i: usize, v: i32) -> bool {

@@ -50,16 +50,16 @@ fn prediction<S: Samples>(samples: &S, spot: Spot) -> u16
 }
 
 #[derive(Drop)]
-pub struct Corner<S: Samples> {
+pub struct Corner<S, M> {
     samples: S,
-    maximum: S::Sample,
+    maximum: M,
     grid: Grid,
 }
 
-impl<'a> Corner<&'a [u8]> {
+impl<'a> Corner<&'a [u8], u8> {
     // Opens the corner carrier of a picture that is only read, with one byte a sample, of this width in pixels. A
     // channel count that is not 3 counts as 1.
-    pub fn reading(samples: &'a [u8], maximum: u8, width: u16, channels: u8) -> Corner<&'a [u8]>
+    pub fn reading(samples: &'a [u8], maximum: u8, width: u16, channels: u8) -> Corner<&'a [u8], u8>
         ensures picture { result.samples.now ≡ samples.now }
         ensures maximum { result.maximum ≡ maximum }
         ensures width { result.grid.width ≡ width }
@@ -74,14 +74,14 @@ impl<'a> Corner<&'a [u8]> {
     }
 }
 
-impl<'a> Corner<&'a mut [u8]> {
+impl<'a> Corner<&'a mut [u8], u8> {
     // The same on a picture that can be written.
     pub fn writing(
         samples: &'a mut [u8],
         maximum: u8,
         width: u16,
         channels: u8,
-    ) -> Corner<&'a mut [u8]>
+    ) -> Corner<&'a mut [u8], u8>
         ensures picture { result.samples.now ≡ samples.old }
         ensures lender { result.samples.ghost_name ≡ samples.entry.ghost_name }
         ensures maximum { result.maximum ≡ maximum }
@@ -96,9 +96,9 @@ impl<'a> Corner<&'a mut [u8]> {
     }
 }
 
-impl<S: Samples> Corner<S> {
+impl<S: Samples, M: Sample> Corner<S, M> {
     fn look(&self, i: usize) -> Option<Place>
-        ensures { Looked (corner_sites (corner_rest (S.Sample.Sample.value self.now.maximum) self.now.grid.width (channel_count self.now.grid.channels) (S.Samples.values self.now.samples))) (corner_codes self.now.grid.width (channel_count self.now.grid.channels) (S.Samples.values self.now.samples)) i result }
+        ensures { Looked (corner_sites (corner_rest (M.value self.now.maximum) self.now.grid.width (channel_count self.now.grid.channels) (S.Samples.values self.now.samples))) (corner_codes self.now.grid.width (channel_count self.now.grid.channels) (S.Samples.values self.now.samples)) i result }
     {
         let total = self.samples.used();
         let Some(spot) = self.grid.spot(i, total) else {
@@ -110,10 +110,10 @@ impl<S: Samples> Corner<S> {
     }
 }
 
-impl<S: Samples> Carrier for Corner<S> {
+impl<S: Samples, M: Sample> Carrier for Corner<S, M> {
     ghost Rest = { CornerRest };
 
-    ghost rest = { λ p. corner_rest (S.Sample.Sample.value p.maximum) p.grid.width (channel_count p.grid.channels) (S.Samples.values p.samples) };
+    ghost rest = { λ p. corner_rest (M.value p.maximum) p.grid.width (channel_count p.grid.channels) (S.Samples.values p.samples) };
 
     ghost codes = { λ p. corner_codes p.grid.width (channel_count p.grid.channels) (S.Samples.values p.samples) };
 
@@ -123,7 +123,7 @@ impl<S: Samples> Carrier for Corner<S> {
 
     ghost picture = { λ p. S.Samples.values p.samples };
 
-    ghost meaning = { corner_meaning (λ p. S.Sample.Sample.value p.maximum) (λ p. p.grid.width) (λ p. channel_count p.grid.channels) (λ p. S.Samples.values p.samples) };
+    ghost meaning = { corner_meaning (λ p. M.value p.maximum) (λ p. p.grid.width) (λ p. channel_count p.grid.channels) (λ p. S.Samples.values p.samples) };
 
     fn count(&self) -> usize {
         self.grid.count(self.samples.used())
@@ -144,13 +144,13 @@ impl<S: Samples> Carrier for Corner<S> {
     }
 }
 
-impl<S: SamplesMut> Corner<S> {
+impl<M: Sample, S: SamplesMut<M>> Corner<S, M> {
     // Makes `v`, which place `i` takes, its code.
     fn write(&mut self, i: usize, at: Place, v: i32)
-        requires there { Describes (corner_sites (corner_rest (S.Sample.Sample.value self.old.maximum) self.old.grid.width (channel_count self.old.grid.channels) (S.Samples.values self.old.samples))) (corner_codes self.old.grid.width (channel_count self.old.grid.channels) (S.Samples.values self.old.samples)) i at }
+        requires there { Describes (corner_sites (corner_rest (M.value self.old.maximum) self.old.grid.width (channel_count self.old.grid.channels) (S.Samples.values self.old.samples))) (corner_codes self.old.grid.width (channel_count self.old.grid.channels) (S.Samples.values self.old.samples)) i at }
         requires taken { takes (site_of at) v ≡ true }
-        ensures puts { Puts 0 (corner_sites (corner_rest (S.Sample.Sample.value self.old.maximum) self.old.grid.width (channel_count self.old.grid.channels) (S.Samples.values self.old.samples))) i v (corner_codes self.old.grid.width (channel_count self.old.grid.channels) (S.Samples.values self.old.samples)) (corner_codes self.new.grid.width (channel_count self.new.grid.channels) (S.Samples.values self.new.samples)) (S.Samples.values self.old.samples) (S.Samples.values self.new.samples) (Ok result) }
-        ensures rest { corner_rest (S.Sample.Sample.value self.new.maximum) self.new.grid.width (channel_count self.new.grid.channels) (S.Samples.values self.new.samples) ≡ corner_rest (S.Sample.Sample.value self.old.maximum) self.old.grid.width (channel_count self.old.grid.channels) (S.Samples.values self.old.samples) }
+        ensures puts { Puts 0 (corner_sites (corner_rest (M.value self.old.maximum) self.old.grid.width (channel_count self.old.grid.channels) (S.Samples.values self.old.samples))) i v (corner_codes self.old.grid.width (channel_count self.old.grid.channels) (S.Samples.values self.old.samples)) (corner_codes self.new.grid.width (channel_count self.new.grid.channels) (S.Samples.values self.new.samples)) (S.Samples.values self.old.samples) (S.Samples.values self.new.samples) (Ok result) }
+        ensures rest { corner_rest (M.value self.new.maximum) self.new.grid.width (channel_count self.new.grid.channels) (S.Samples.values self.new.samples) ≡ corner_rest (M.value self.old.maximum) self.old.grid.width (channel_count self.old.grid.channels) (S.Samples.values self.old.samples) }
         ensures lent { S.SamplesMut.lent self.new.samples ≡ S.SamplesMut.lent self.old.samples }
     {
         // the maximum is no more than a sample can hold
@@ -159,7 +159,7 @@ impl<S: SamplesMut> Corner<S> {
     }
 }
 
-impl<S: SamplesMut> CarrierMut for Corner<S> {
+impl<M: Sample, S: SamplesMut<M>> CarrierMut for Corner<S, M> {
     ghost lent = { λ p. S.SamplesMut.lent p.samples };
 
     fn put(&mut self, i: usize, v: i32) -> Result<(), Refusal> {

@@ -30,7 +30,7 @@ pub fn exchange<C: CarrierMut>(c: &mut C, i: usize, v: i32) -> Result<i32, Refus
 
 // The same on one pile: a window of a turn of a window of a corner carrier.
 pub fn exchange_in_pile(
-    pile: &mut Window<Turn<Window<Corner<&mut [u8]>>>>,
+    pile: &mut Window<Turn<Window<Corner<&mut [u8], u8>>>>,
     i: usize,
     v: i32,
 ) -> Result<i32, Refusal>

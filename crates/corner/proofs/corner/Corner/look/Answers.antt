@@ -16,6 +16,6 @@ known-v-requires g c = seat_in _ _ _ _ _ (rw c.used-total.ensures at c.in-Some.e
 pub returns : goal.returns
 returns g c =
     let at = rw c.used-total.ensures at c.in-Some.ensures in
-    let high : g.S.Sample.Sample.value c.args.self.now.maximum < 65536 = subst (λ n. n < 65536) c.widen.ensures.value c.widen.type_inv in
+    let high : g.M.Sample.value c.args.self.now.maximum < 65536 = subst (λ n. n < 65536) c.widen.ensures.value c.widen.type_inv in
     described _ _ _ _ c.in-Some.spot at _ c.known-v.result c.prediction-m.result c.place_of.result
     c.prediction-m.ensures c.known-v.ensures c.known-v.type_inv c.prediction-m.type_inv high c.place_of.ensures.code (search rules)

@@ -1,5 +1,5 @@
 -- What every carrier has and obeys. Assumes nothing.
-use Rattle.std.specs.Prelude.{◌≡◌, ℕ, ◌<◌, ◌≤◌, Bool, cond, ◌&&◌, List, [], ◌∷◌, length, get_or, ℤ, pos, ◌-ℤ◌, neg_ℤ, ◌≤ℤ◌, Option, Result, MatchOption, MatchResult, ◌≢◌, int_le, nat_lt, slice_index, slice_index_or, slice_set, unsigned_abs}
+use Rattle.std.specs.Prelude.{◌≡◌, ℕ, ◌<◌, ◌≤◌, Bool, cond, ◌&&◌, List, [], ◌∷◌, length, ℤ, pos, ◌-ℤ◌, neg_ℤ, ◌≤ℤ◌, Option, Result, MatchOption, MatchResult, ◌≢◌, int_le, nat_lt, slice_index, slice_index_or, slice_set, unsigned_abs}
 use Rattle.refusal.specs.declared.Refusal.{Refusal}
 use Rattle.refusal.specs.Numbers.{Says}
 use Rattle.refusal.specs.Answers.{Answer, accepted, refused, answer, tells}
@@ -18,7 +18,7 @@ no_site = record { low = pos 0; high = pos 0; seat = 0 }
 
 -- the seat of place i
 abbrev pub seat_at : List Site → ℕ → ℕ
-seat_at sites i = (get_or sites i no_site).seat
+seat_at sites i = (slice_index_or sites i no_site).seat
 
 -- sample k is the seat of no place
 abbrev pub Unseated : List Site → ℕ → Type 0

@@ -1,6 +1,6 @@
 -- What is answered to a file: the questions one after another, until one fails.
 -- Assumes nothing.
-use Rattle.std.specs.Prelude.{ℕ, ◌-◌, ◌*◌, Bool, true, false, cond, not, ◌&&◌, ◌||◌, leb, List, [], ◌∷◌, length, take, drop, Some, None, Option, ◌==◌, nat_le}
+use Rattle.std.specs.Prelude.{ℕ, ◌-◌, ◌*◌, Bool, true, false, cond, not, ◌&&◌, ◌||◌, List, [], ◌∷◌, length, take, drop, Some, None, Option, ◌==◌, nat_le}
 use Rattle.std.specs.List.{prefix_len}
 use Rattle.refusal.specs.Answers.{Answer, accepted, given, holds, none_found}
 use Rattle.netpbm.specs.declared.Header.{Header}
@@ -33,7 +33,7 @@ number bs = cond (begins_gap bs) (digits (after_gap false bs)) None
 
 -- the number of the first sample above the maximum
 unfoldable pub first_above : ℕ → List ℕ → Option ℕ
-first_above maximum samples = let n = prefix_len (λ s. leb s maximum) samples in cond (n == length samples) None (Some n)
+first_above maximum samples = let n = prefix_len (λ s. nat_le s maximum) samples in cond (n == length samples) None (Some n)
 
 -- the bytes are a white byte and n samples, and no more
 abbrev pub ends_with : ℕ → List ℕ → Bool

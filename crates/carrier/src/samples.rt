@@ -77,8 +77,7 @@ impl Samples for &[u8] {
     ghost values = { λ s. s.now };
 
     fn total(&self) -> usize {
-        let bytes = *self;
-        bytes.len()
+        (*self).len()
     }
 
     fn sample(&self, i: usize) -> Option<u16> {
@@ -96,7 +95,7 @@ impl Samples for &mut [u8] {
     ghost values = { λ s. s.now };
 
     fn total(&self) -> usize {
-        (*self).len()
+        self.len()
     }
 
     fn sample(&self, i: usize) -> Option<u16> {

@@ -1,41 +1,44 @@
 -- What the plain carrier says of its places. Assumes nothing.
-use Rattle.std.proofs.Common.{◌≡◌, ℕ, ◌<◌, ◌≤◌, min, Bool, true, List, map, length, get_or, take, set, ℤ, pos, ◌-ℤ◌, nat_abs, sym, ap, ◌∙◌, subst, arith}
+use Rattle.std.proofs.Common.{◌≡◌, ℕ, ◌<◌, ◌≤◌, Bool, true, List, map, length, get_or, take, set, ℤ, pos, ◌-ℤ◌, nat_abs, sym, ap, ◌∙◌, subst, arith}
 use lib.Seq.{take-set-lt}
 use Rattle.std.proofs.lemmas.List.{get_or-map, get_or-take, length-take, length-set, map-set, drop-set-lt}
 use Rattle.std.proofs.lemmas.Int.{ints}
 use Rattle.carrier.specs.declared.interface.Place.{Place}
 use Rattle.carrier.specs.Meaning.{Site, Describes, Moves, no_site, site_of, seat_at, takes}
-use Rattle.carrier.specs.Storing.{most, Holds, Stored}
+use Rattle.carrier.specs.Storing.{Holds, Stored}
 use Rattle.carrier.proofs.Putting.{taken, pos_nat_abs, stored, moved}
-use Rattle.carrier.specs.Plain.{plain_codes, plain_rest, plain_site, plain_sites}
+use Rattle.carrier.specs.Plain.{most, plain_codes, plain_rest, plain_site, plain_sites}
 use Rattle.carrier.specs.PlainMeaning.{length-plain_codes, plain_site_at}
 
 module _ (s : List ℕ) (i : ℕ) where
-  within : i < min most (length s) → i < length (plain_codes s)
-  within h = omega (arith, length-plain_codes s)
+  pub within : i < most → i < length s → i < length (plain_codes s)
+  within h k = omega (arith, length-plain_codes s)
 
-  pub past : min most (length s) ≤ i → length (plain_codes s) ≤ i
-  past h = omega (arith, length-plain_codes s)
+  pub past_limit : most ≤ i → length (plain_codes s) ≤ i
+  past_limit h = omega (arith, length-plain_codes s)
 
-  code_at : i < min most (length s) → get_or (plain_codes s) i (pos 0) ≡ pos (get_or s i 0)
+  pub past_end : length s ≤ i → length (plain_codes s) ≤ i
+  past_end h = omega (arith, length-plain_codes s)
+
+  code_at : i < most → i < length s → get_or (plain_codes s) i (pos 0) ≡ pos (get_or s i 0)
   unfolding plain_codes
-  code_at h =
+  code_at h k =
       let here : i < length (take most s) = omega (arith, length-take most s) in
-      get_or-map pos (take most s) i 0 (pos 0) here ∙ ap pos (get_or-take most s i 0 (omega arith))
+      get_or-map pos (take most s) i 0 (pos 0) here ∙ ap pos (get_or-take most s i 0 h)
 
-  site_at : (m : ℕ) → i < min most (length s) → get_or (plain_sites (plain_rest m s)) i no_site ≡ plain_site m i
+  site_at : (m : ℕ) → i < most → i < length s → get_or (plain_sites (plain_rest m s)) i no_site ≡ plain_site m i
   unfolding plain_rest
-  site_at m h = plain_site_at (plain_rest m s) i no_site h
+  site_at m h k = plain_site_at (plain_rest m s) i no_site (omega arith)
 
   -- place i of a plain carrier, by the sample v there
-  pub described : (m v : ℕ) (p : Place) → i < min most (length s) → v ≡ get_or s i 0 → v < 65536 → m < 65536 → p.code ≡ pos v → site_of p ≡ plain_site m i → Describes (plain_sites (plain_rest m s)) (plain_codes s) i p
-  described m v p h read small bounded code site =
+  pub described : (m v : ℕ) (p : Place) → i < most → i < length s → v ≡ get_or s i 0 → v < 65536 → m < 65536 → p.code ≡ pos v → site_of p ≡ plain_site m i → Describes (plain_sites (plain_rest m s)) (plain_codes s) i p
+  described m v p h k read small bounded code site =
       let low = ap (λ (q : Site). q.low) site in
       let high = ap (λ (q : Site). q.high) site in
       record {
-        within = within h;
-        code = code ∙ ap pos read ∙ sym (code_at h);
-        site = site ∙ sym (site_at m h);
+        within = within h k;
+        code = code ∙ ap pos read ∙ sym (code_at h k);
+        site = site ∙ sym (site_at m h k);
         code_range = omega (arith, ints);
         low_range = omega (arith, ints);
         high_range = omega (arith, ints);
@@ -52,11 +55,14 @@ codes_set s i n h = ap (map pos) (take-set-lt most s i n h) ∙ map-set pos (tak
 
 -- what storing a value that place i takes does to a plain carrier
 module _ (m widest : ℕ) (s t : List ℕ) (i : ℕ) (p : Place) (v w : ℤ) (r : Bool) (d : Describes (plain_sites (plain_rest m s)) (plain_codes s) i p) (fine : takes (site_of p) v ≡ true) (fits : m ≤ widest) (kept : Stored widest p.seat w s t r) (less : w ≡ v -ℤ p.low) where
-  there : i < min most (length s)
+  few : i < most
+  few = omega (arith, d.within, length-plain_codes s)
+
+  there : i < length s
   there = omega (arith, d.within, length-plain_codes s)
 
   site : site_of p ≡ plain_site m i
-  site = d.site ∙ site_at s i m there
+  site = d.site ∙ site_at s i m few there
 
   seat : p.seat ≡ i
   seat = ap (λ (q : Site). q.seat) site
@@ -79,16 +85,16 @@ module _ (m widest : ℕ) (s t : List ℕ) (i : ℕ) (p : Place) (v w : ℤ) (r 
       pos_nat_abs (v -ℤ p.low) (omega (arith, ints, low, bounds.0)) ∙ omega (arith, ints, low)
 
   written_rest : plain_rest m t ≡ plain_rest m s
-  written_rest = ap (plain_rest m) now ∙ rest_set m s i _ (omega (arith, there))
+  written_rest = ap (plain_rest m) now ∙ rest_set m s i _ few
 
   written_codes : plain_codes t ≡ set (plain_codes s) i v
-  written_codes = ap plain_codes now ∙ codes_set s i _ (omega (arith, there)) ∙ ap (set (plain_codes s) i) value
+  written_codes = ap plain_codes now ∙ codes_set s i _ few ∙ ap (set (plain_codes s) i) value
 
   written_moves : Moves (plain_sites (plain_rest m s)) i (plain_codes s) (plain_codes t) s t
   written_moves =
-      let at_seat : seat_at (plain_sites (plain_rest m s)) i ≡ i = ap (λ (q : Site). q.seat) (site_at s i m there) in
+      let at_seat : seat_at (plain_sites (plain_rest m s)) i ≡ i = ap (λ (q : Site). q.seat) (site_at s i m few there) in
       moved (plain_sites (plain_rest m s)) i (plain_codes s) s p.low v (plain_codes t) t d.within (omega (arith, at_seat, there))
-      (code_at s i there ∙ ap (λ k. pos (get_or s k 0)) (sym at_seat) ∙ omega (arith, ints, low))
+      (code_at s i few there ∙ ap (λ k. pos (get_or s k 0)) (sym at_seat) ∙ omega (arith, ints, low))
       written_codes (now ∙ ap (λ k. set s k (nat_abs (v -ℤ p.low))) (sym at_seat)) (taken (site_of p) v fine).0
 
   pub written : (plain_codes t ≡ set (plain_codes s) i v) × Moves (plain_sites (plain_rest m s)) i (plain_codes s) (plain_codes t) s t × (plain_rest m t ≡ plain_rest m s)

@@ -2,7 +2,10 @@
 use Rattle.std.specs.Prelude.{ℕ, min, List, map, length, take, drop, ℤ, pos}
 use Rattle.std.specs.List.{range_with_len}
 use Rattle.carrier.specs.Meaning.{Site}
-use Rattle.carrier.specs.Storing.{most}
+
+-- a carrier uses at most this many samples of its picture
+abbrev pub most : ℕ
+most = 67108864
 
 -- what a plain carrier keeps: its greatest value, the number of places, and the samples past the last place
 pub record PlainRest : Type 0 where

@@ -6,8 +6,7 @@ use Rattle.std.proofs.lemmas.List.FromFn.{length-map-range_with_len, get_or-map-
 use Rattle.std.proofs.lemmas.List.{get_or-drop, get_or_past, length-map}
 use Rattle.std.proofs.lemmas.Bool.{cases_lt}
 use Rattle.carrier.specs.Meaning.{Site, Meaning, no_site, seat_at, Unseated}
-use Rattle.carrier.specs.Storing.{most}
-use Rattle.carrier.specs.Plain.{PlainRest, plain_site, plain_sites, plain_codes, plain_rest}
+use Rattle.carrier.specs.Plain.{most, PlainRest, plain_site, plain_sites, plain_codes, plain_rest}
 
 -- as many codes as samples, up to the limit
 pub length-plain_codes : (samples : List ℕ) → length (plain_codes samples) ≡ min most (length samples)

@@ -1,10 +1,6 @@
 -- The samples of a picture and how one is changed. Assumes nothing.
 use Rattle.std.specs.Prelude.{◌≡◌, ℕ, ◌<◌, Bool, true, false, List, length, ℤ, pos, ◌≤ℤ◌, slice_set, unsigned_abs}
 
--- a carrier uses at most this many samples of its picture
-abbrev pub most : ℕ
-most = 67108864
-
 -- there is a sample i, and a sample of at most `widest` can be v
 abbrev pub Holds : ℕ → ℕ → ℤ → List ℕ → Type 0
 Holds widest i v samples = (i < length samples) × ((pos 0 ≤ℤ v) × (v ≤ℤ pos widest))

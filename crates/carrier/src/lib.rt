@@ -7,7 +7,7 @@ mod plain;
 mod samples;
 
 pub use interface::{Carrier, CarrierMut, Place, may_put};
-pub use plain::Plain;
+pub use plain::{Plain, used};
 pub use samples::{Sample, Samples, SamplesMut};
 
 #[cfg(test)]

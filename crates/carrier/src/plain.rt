@@ -1,12 +1,22 @@
 // The plain carrier: place i is sample i.
-ghost use Rattle.std.specs.Prelude.{◌≡◌, true, pos, Ok};
+ghost use Rattle.std.specs.Prelude.{◌≡◌, min, true, pos, Ok};
 ghost use Rattle.carrier.specs.Meaning.{Looked, Describes, Puts, site_of, takes};
-ghost use Rattle.carrier.specs.Plain.{PlainRest, plain_site, plain_rest, plain_codes, plain_sites, plain_level};
+ghost use Rattle.carrier.specs.Plain.{most, PlainRest, plain_site, plain_rest, plain_codes, plain_sites, plain_level};
 ghost use Rattle.carrier.specs.PlainMeaning.{plain_meaning};
 
 use crate::interface::{Carrier, CarrierMut, Place, may_put};
 use crate::samples::{Sample, Samples, SamplesMut};
 use refusal::Refusal;
+
+// The most samples that a carrier uses.
+const MOST: usize = 67_108_864;
+
+// `total` samples, or as many of them as a carrier uses.
+pub fn used(total: usize) -> usize
+    ensures { result ≡ min most total }
+{
+    total.min(MOST)
+}
 
 // The place of sample `i`, whose value is `v`.
 fn place_of(v: u16, maximum: u16, i: usize) -> Place
@@ -57,7 +67,7 @@ impl<S: Samples, M: Sample> Plain<S, M> {
     fn look(&self, i: usize) -> Option<Place>
         ensures { Looked (plain_sites (plain_rest (M.value self.now.maximum) (S.Samples.values self.now.samples))) (plain_codes (S.Samples.values self.now.samples)) i result }
     {
-        if i >= self.samples.used() {
+        if i >= MOST {
             return None;
         }
         match self.samples.sample(i) {
@@ -83,7 +93,7 @@ impl<S: Samples, M: Sample> Carrier for Plain<S, M> {
     ghost meaning = { plain_meaning (λ p. M.value p.maximum) (λ p. S.Samples.values p.samples) };
 
     fn count(&self) -> usize {
-        self.samples.used()
+        used(self.samples.total())
     }
 
     fn height(&self) -> u8 {

@@ -1,16 +1,6 @@
 // Where the samples of a picture lie, and how wide they are.
-ghost use Rattle.std.specs.Prelude.{◌≡◌, ℕ, ◌<◌, ◌≤◌, min, List, [], ◌∷◌, length, MatchOption, slice_index};
-ghost use Rattle.carrier.specs.Storing.{most, Stored};
-
-// The most samples that a carrier uses.
-const MOST: usize = 67_108_864;
-
-// `total` samples, or as many of them as a carrier uses.
-fn used(total: usize) -> usize
-    ensures { result ≡ min most total }
-{
-    total.min(MOST)
-}
+ghost use Rattle.std.specs.Prelude.{◌≡◌, ℕ, ◌<◌, ◌≤◌, List, [], ◌∷◌, length, MatchOption, slice_index};
+ghost use Rattle.carrier.specs.Storing.{Stored};
 
 // The type of a sample: a number that is at most `widest`.
 pub trait Sample: Copy {
@@ -49,13 +39,6 @@ pub trait Samples {
 
     fn total(&self) -> usize
         ensures { result ≡ length (values self.now) };
-
-    // How many of them a carrier uses.
-    fn used(&self) -> usize
-        ensures { result ≡ min most (length (values self.now)) }
-    {
-        used(self.total())
-    }
 
     fn sample(&self, i: usize) -> Option<u16>
         ensures { MatchOption result (length (values self.now) ≤ i) (λ v. (i < length (values self.now)) × (v ≡ slice_index (values self.now) i)) };

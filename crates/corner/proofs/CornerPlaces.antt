@@ -7,7 +7,8 @@ use Rattle.std.proofs.lemmas.Bool.{cases_eq}
 use Rattle.carrier.specs.Blanked.{blanked, blanked-set}
 use Rattle.carrier.specs.declared.interface.Place.{Place}
 use Rattle.carrier.specs.Meaning.{Site, Describes, Moves, no_site, site_of, seat_at, takes}
-use Rattle.carrier.specs.Storing.{most, Holds, Stored}
+use Rattle.carrier.specs.Plain.{most}
+use Rattle.carrier.specs.Storing.{Holds, Stored}
 use Rattle.carrier.proofs.Putting.{taken, pos_nat_abs, stored, moved}
 use Rattle.corner.specs.declared.Spot.{Spot}
 use Rattle.corner.specs.Layout.{places, seat, left, above, diagonal}

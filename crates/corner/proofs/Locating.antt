@@ -1,7 +1,7 @@
 -- The four samples of a place, as they are computed. Assumes nothing.
 use Rattle.std.proofs.Common.{◌≡◌, ℕ, ◌+◌, ◌*◌, ◌<◌, ◌≤◌, sym, ap, ⊎_elim, mul_assoc, add-mul, mul-pos, one-mul, arith}
 use Rattle.std.proofs.lemmas.Bool.{cases_lt}
-use Rattle.carrier.specs.Storing.{most}
+use Rattle.carrier.specs.Plain.{most}
 use Rattle.corner.specs.declared.Spot.{Spot}
 use Rattle.corner.specs.Layout.{at_pixel, across, places, channel, block_row, block_column, seat, left, above, diagonal}
 use Rattle.corner.specs.Numbering.{some_across, rows_within, is_place, four_to_a_place}

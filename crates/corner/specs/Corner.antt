@@ -4,7 +4,7 @@ use Rattle.std.specs.Prelude.{ℕ, min, List, map, length, ℤ, pos, ◌-ℤ◌,
 use Rattle.std.specs.List.{range_with_len}
 use Rattle.carrier.specs.Blanked.{blanked}
 use Rattle.carrier.specs.Meaning.{Site}
-use Rattle.carrier.specs.Storing.{most}
+use Rattle.carrier.specs.Plain.{most}
 use Rattle.corner.specs.Layout.{places, seat, left, above, diagonal}
 use Rattle.corner.specs.Predictor.{predicted}
 

@@ -7,7 +7,7 @@ use Rattle.std.proofs.lemmas.List.FromFn.{length-map-range_with_len, get_or-map-
 use Rattle.std.proofs.lemmas.Int.{ints}
 use Rattle.carrier.specs.Blanked.{blanked, NoneOf, length-blanked, get_or-blanked, blanked_with}
 use Rattle.carrier.specs.Meaning.{Site, Meaning, no_site, seat_at, Unseated}
-use Rattle.carrier.specs.Storing.{most}
+use Rattle.carrier.specs.Plain.{most}
 use Rattle.corner.specs.Layout.{places, seat, left, above, diagonal}
 use Rattle.corner.specs.Predictor.{predicted}
 use Rattle.corner.specs.Corner.{CornerRest, corner_count, corner_seats, prediction, corner_site, corner_code, corner_sites, corner_codes, corner_rest}

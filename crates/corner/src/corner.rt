@@ -1,7 +1,8 @@
 // The corner carrier: the lower right sample of each block of 2 x 2 pixels, by its distance from a prediction that the
 // block's other samples make. These are never seats, so a put leaves every prediction.
-ghost use Rattle.std.specs.Prelude.{◌≡◌, ◌<◌, true, length, Ok, slice_index};
+ghost use Rattle.std.specs.Prelude.{◌≡◌, ◌<◌, min, true, length, Ok, slice_index};
 ghost use Rattle.carrier.specs.Meaning.{Looked, Describes, Puts, site_of, takes};
+ghost use Rattle.carrier.specs.Plain.{most};
 ghost use Rattle.corner.specs.Channels.{counted, channel_count};
 ghost use Rattle.corner.specs.Corner.{CornerRest, corner_code, corner_site, corner_rest, corner_codes, corner_sites, corner_level};
 ghost use Rattle.corner.specs.CornerMeaning.{corner_meaning};
@@ -9,7 +10,7 @@ ghost use Rattle.corner.specs.Predictor.{predicted};
 
 use crate::predictor::predict;
 use crate::{Grid, Spot};
-use carrier::{Carrier, CarrierMut, Place, Sample, Samples, SamplesMut, may_put};
+use carrier::{Carrier, CarrierMut, Place, Sample, Samples, SamplesMut, may_put, used};
 use refusal::Refusal;
 
 // The place with the seat `seat`, whose sample is `v` where `m` is predicted.
@@ -97,10 +98,17 @@ impl<'a> Corner<&'a mut [u8], u8> {
 }
 
 impl<S: Samples, M: Sample> Corner<S, M> {
+    // How many samples of the picture are used.
+    fn used(&self) -> usize
+        ensures { result ≡ min most (length (S.Samples.values self.now.samples)) }
+    {
+        used(self.samples.total())
+    }
+
     fn look(&self, i: usize) -> Option<Place>
         ensures { Looked (corner_sites (corner_rest (M.value self.now.maximum) self.now.grid.width (channel_count self.now.grid.channels) (S.Samples.values self.now.samples))) (corner_codes self.now.grid.width (channel_count self.now.grid.channels) (S.Samples.values self.now.samples)) i result }
     {
-        let total = self.samples.used();
+        let total = self.used();
         let Some(spot) = self.grid.spot(i, total) else {
             return None;
         };
@@ -126,7 +134,7 @@ impl<S: Samples, M: Sample> Carrier for Corner<S, M> {
     ghost meaning = { corner_meaning (λ p. M.value p.maximum) (λ p. p.grid.width) (λ p. channel_count p.grid.channels) (λ p. S.Samples.values p.samples) };
 
     fn count(&self) -> usize {
-        self.grid.count(self.samples.used())
+        self.grid.count(self.used())
     }
 
     fn height(&self) -> u8 {

@@ -3,7 +3,7 @@
 #![tactic(auto)]
 
 ghost use Rattle.std.specs.Prelude.{◌≡◌, ◌+◌, ◌/◌, ◌%◌, ◌<◌, ◌≤◌, MatchOption};
-ghost use Rattle.carrier.specs.Storing.{most};
+ghost use Rattle.carrier.specs.Plain.{most};
 ghost use Rattle.corner.specs.Channels.{counted, channel_count};
 ghost use Rattle.corner.specs.Layout.{places, across};
 ghost use Rattle.corner.specs.Spots.{Located};

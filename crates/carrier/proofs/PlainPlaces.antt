@@ -1,5 +1,5 @@
 -- What the plain carrier says of its places. Assumes nothing.
-use Rattle.std.proofs.Common.{◌≡◌, ℕ, ◌<◌, ◌≤◌, Bool, true, List, map, length, get_or, take, set, ℤ, pos, ◌-ℤ◌, nat_abs, sym, ap, ◌∙◌, subst, arith}
+use Rattle.std.proofs.Common.{◌≡◌, ℕ, ◌<◌, ◌≤◌, Bool, true, List, map, length, slice_index, slice_index_or, take, slice_set, ℤ, pos, ◌-ℤ◌, unsigned_abs, sym, ap, ◌∙◌, subst, arith}
 use lib.Seq.{take-set-lt}
 use Rattle.std.proofs.lemmas.List.{get_or-map, get_or-take, length-take, length-set, map-set, drop-set-lt}
 use Rattle.std.proofs.lemmas.Int.{ints}
@@ -20,18 +20,18 @@ module _ (s : List ℕ) (i : ℕ) where
   pub past_end : length s ≤ i → length (plain_codes s) ≤ i
   past_end h = omega (arith, length-plain_codes s)
 
-  code_at : i < most → i < length s → get_or (plain_codes s) i (pos 0) ≡ pos (get_or s i 0)
+  code_at : i < most → i < length s → slice_index_or (plain_codes s) i (pos 0) ≡ pos (slice_index s i)
   unfolding plain_codes
   code_at h k =
       let here : i < length (take most s) = omega (arith, length-take most s) in
       get_or-map pos (take most s) i 0 (pos 0) here ∙ ap pos (get_or-take most s i 0 h)
 
-  site_at : (m : ℕ) → i < most → i < length s → get_or (plain_sites (plain_rest m s)) i no_site ≡ plain_site m i
+  site_at : (m : ℕ) → i < most → i < length s → slice_index_or (plain_sites (plain_rest m s)) i no_site ≡ plain_site m i
   unfolding plain_rest
   site_at m h k = plain_site_at (plain_rest m s) i no_site (omega arith)
 
   -- place i of a plain carrier, by the sample v there
-  pub described : (m v : ℕ) (p : Place) → i < most → i < length s → v ≡ get_or s i 0 → v < 65536 → m < 65536 → p.code ≡ pos v → site_of p ≡ plain_site m i → Describes (plain_sites (plain_rest m s)) (plain_codes s) i p
+  pub described : (m v : ℕ) (p : Place) → i < most → i < length s → v ≡ slice_index s i → v < 65536 → m < 65536 → p.code ≡ pos v → site_of p ≡ plain_site m i → Describes (plain_sites (plain_rest m s)) (plain_codes s) i p
   described m v p h k read small bounded code site =
       let low = ap (λ (q : Site). q.low) site in
       let high = ap (λ (q : Site). q.high) site in
@@ -45,11 +45,11 @@ module _ (s : List ℕ) (i : ℕ) where
       }
 
 -- a sample that is a place's seat can change, and the rest does not
-rest_set : (m : ℕ) (s : List ℕ) (i n : ℕ) → i < most → plain_rest m (set s i n) ≡ plain_rest m s
+rest_set : (m : ℕ) (s : List ℕ) (i n : ℕ) → i < most → plain_rest m (slice_set s i n) ≡ plain_rest m s
 unfolding plain_rest
 rest_set m s i n h = rw (length-set s i n, drop-set-lt most s i n h)
 
-codes_set : (s : List ℕ) (i n : ℕ) → i < most → plain_codes (set s i n) ≡ set (plain_codes s) i (pos n)
+codes_set : (s : List ℕ) (i n : ℕ) → i < most → plain_codes (slice_set s i n) ≡ slice_set (plain_codes s) i (pos n)
 unfolding plain_codes
 codes_set s i n h = ap (map pos) (take-set-lt most s i n h) ∙ map-set pos (take most s) i n
 
@@ -73,13 +73,13 @@ module _ (m widest : ℕ) (s t : List ℕ) (i : ℕ) (p : Place) (v w : ℤ) (r 
   high : p.high ≡ pos m
   high = ap (λ (q : Site). q.high) site
 
-  now : t ≡ set s i (nat_abs (v -ℤ p.low))
+  now : t ≡ slice_set s i (unsigned_abs (v -ℤ p.low))
   now =
       let bounds = taken (site_of p) v fine in
       let can : Holds widest p.seat (v -ℤ p.low) s = (omega (arith, seat, there), (omega (arith, ints, low, bounds.0), omega (arith, ints, low, high, bounds.1))) in
-      stored widest p.seat (v -ℤ p.low) s t r (subst (λ u. Stored widest p.seat u s t r) less kept) can ∙ ap (λ k. set s k (nat_abs (v -ℤ p.low))) seat
+      stored widest p.seat (v -ℤ p.low) s t r (subst (λ u. Stored widest p.seat u s t r) less kept) can ∙ ap (λ k. slice_set s k (unsigned_abs (v -ℤ p.low))) seat
 
-  value : pos (nat_abs (v -ℤ p.low)) ≡ v
+  value : pos (unsigned_abs (v -ℤ p.low)) ≡ v
   value =
       let bounds = taken (site_of p) v fine in
       pos_nat_abs (v -ℤ p.low) (omega (arith, ints, low, bounds.0)) ∙ omega (arith, ints, low)
@@ -87,15 +87,15 @@ module _ (m widest : ℕ) (s t : List ℕ) (i : ℕ) (p : Place) (v w : ℤ) (r 
   written_rest : plain_rest m t ≡ plain_rest m s
   written_rest = ap (plain_rest m) now ∙ rest_set m s i _ few
 
-  written_codes : plain_codes t ≡ set (plain_codes s) i v
-  written_codes = ap plain_codes now ∙ codes_set s i _ few ∙ ap (set (plain_codes s) i) value
+  written_codes : plain_codes t ≡ slice_set (plain_codes s) i v
+  written_codes = ap plain_codes now ∙ codes_set s i _ few ∙ ap (slice_set (plain_codes s) i) value
 
   written_moves : Moves (plain_sites (plain_rest m s)) i (plain_codes s) (plain_codes t) s t
   written_moves =
       let at_seat : seat_at (plain_sites (plain_rest m s)) i ≡ i = ap (λ (q : Site). q.seat) (site_at s i m few there) in
       moved (plain_sites (plain_rest m s)) i (plain_codes s) s p.low v (plain_codes t) t d.within (omega (arith, at_seat, there))
-      (code_at s i few there ∙ ap (λ k. pos (get_or s k 0)) (sym at_seat) ∙ omega (arith, ints, low))
-      written_codes (now ∙ ap (λ k. set s k (nat_abs (v -ℤ p.low))) (sym at_seat)) (taken (site_of p) v fine).0
+      (code_at s i few there ∙ ap (λ k. pos (slice_index s k)) (sym at_seat) ∙ omega (arith, ints, low))
+      written_codes (now ∙ ap (λ k. slice_set s k (unsigned_abs (v -ℤ p.low))) (sym at_seat)) (taken (site_of p) v fine).0
 
-  pub written : (plain_codes t ≡ set (plain_codes s) i v) × Moves (plain_sites (plain_rest m s)) i (plain_codes s) (plain_codes t) s t × (plain_rest m t ≡ plain_rest m s)
+  pub written : (plain_codes t ≡ slice_set (plain_codes s) i v) × Moves (plain_sites (plain_rest m s)) i (plain_codes s) (plain_codes t) s t × (plain_rest m t ≡ plain_rest m s)
   written = (written_codes, written_moves, written_rest)

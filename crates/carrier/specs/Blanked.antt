@@ -1,5 +1,5 @@
 -- A picture with some of its samples left out. Assumes nothing.
-use Rattle.std.specs.Prelude.{◌≡◌, ℕ, zero, suc, ◌<◌, ◌⊎◌, List, [], ◌∷◌, length, set, ◌≢◌, slice_index, slice_set, refl}
+use Rattle.std.specs.Prelude.{◌≡◌, ℕ, zero, suc, ◌<◌, ◌⊎◌, List, [], ◌∷◌, length, slice_set, ◌≢◌, slice_index, refl}
 use Rattle.std.proofs.Common.{sym, ap, ◌∙◌, inl, inr, ⊎_elim, arith}
 use Rattle.std.proofs.lemmas.List.{length-set, set-set, set_comm, get_or-set_other, ext_get_or}
 use Rattle.std.proofs.lemmas.Bool.{cases_eq}
@@ -35,17 +35,17 @@ set_hidden [] samples k v = set-set samples k v 0
 set_hidden (j ∷ ks) samples k v =
     ⊎_elim
     (λ (e : j ≡ k).
-    ap (λ n. set (slice_set (blanked ks (slice_set samples k v)) n 0) k 0) e ∙ set-set (blanked ks (slice_set samples k v)) k 0 0 ∙ set_hidden ks samples k v
-    ∙ sym (set-set (blanked ks samples) k 0 0) ∙ ap (λ n. set (slice_set (blanked ks samples) n 0) k 0) (sym e))
+    ap (λ n. slice_set (slice_set (blanked ks (slice_set samples k v)) n 0) k 0) e ∙ set-set (blanked ks (slice_set samples k v)) k 0 0 ∙ set_hidden ks samples k v
+    ∙ sym (set-set (blanked ks samples) k 0 0) ∙ ap (λ n. slice_set (slice_set (blanked ks samples) n 0) k 0) (sym e))
     (λ (ne : j ≡ k → ⊥).
-    set_comm (blanked ks (slice_set samples k v)) j k 0 0 ne ∙ ap (λ l. set l j 0) (set_hidden ks samples k v) ∙ sym (set_comm (blanked ks samples) j k 0 0 ne))
+    set_comm (blanked ks (slice_set samples k v)) j k 0 0 ne ∙ ap (λ l. slice_set l j 0) (set_hidden ks samples k v) ∙ sym (set_comm (blanked ks samples) j k 0 0 ne))
     (cases_eq j k)
 
 pub blanked-set : (ks samples : List ℕ) (i v : ℕ) → i < length ks → blanked ks (slice_set samples (slice_index ks i) v) ≡ blanked ks samples
 unfolding blanked
 blanked-set [] samples i v h = absurd (omega arith)
 blanked-set (k ∷ ks) samples zero v h = set_hidden ks samples k v
-blanked-set (k ∷ ks) samples (suc i) v h = ap (λ l. set l k 0) (blanked-set ks samples i v (omega arith))
+blanked-set (k ∷ ks) samples (suc i) v h = ap (λ l. slice_set l k 0) (blanked-set ks samples i v (omega arith))
 
 -- a number is one of these or none
 one_or_none : (ks : List ℕ) (k : ℕ) → ((i : ℕ) × (i < length ks) × (slice_index ks i ≡ k)) ⊎ NoneOf ks k

@@ -1,5 +1,5 @@
 -- What every carrier has and obeys. Assumes nothing.
-use Rattle.std.specs.Prelude.{◌≡◌, ℕ, ◌<◌, ◌≤◌, Bool, cond, ◌&&◌, List, [], ◌∷◌, length, ℤ, pos, ◌-ℤ◌, neg_ℤ, ◌≤ℤ◌, Option, Result, MatchOption, MatchResult, ◌≢◌, int_le, nat_lt, slice_index, slice_index_or, slice_set, unsigned_abs}
+use Rattle.std.specs.Prelude.{◌≡◌, ℕ, ◌+◌, ◌<◌, ◌≤◌, Bool, if◌then◌else◌, ◌&&◌, List, [], ◌∷◌, length, ℤ, pos, ◌-ℤ◌, neg_ℤ, ◌≤ℤ◌, Some, None, Option, Result, MatchOption, MatchResult, ◌≢◌, int_le, nat_lt, slice_index, slice_index_or, slice_set, unsigned_abs}
 use Rattle.refusal.specs.declared.Refusal.{Refusal}
 use Rattle.refusal.specs.Numbers.{Says}
 use Rattle.refusal.specs.Answers.{Answer, accepted, refused, answer, tells}
@@ -62,6 +62,11 @@ pub record Describes (sites : List Site) (codes : List ℤ) (i : ℕ) (p : Place
 abbrev pub Looked : List Site → List ℤ → ℕ → Option Place → Type 0
 Looked sites codes i r = MatchOption r (length codes ≤ i) (Describes sites codes i)
 
+-- one place after another: p is what a carrier says of place i, and the next is i + 1; or there is none from i on
+abbrev pub GivesPlace : List Site → List ℤ → ℕ → ℕ → Option Place → Type 0
+GivesPlace sites codes i j (Some p) = Describes sites codes i p × (j ≡ i + 1)
+GivesPlace sites codes i j None = (length codes ≤ i) × (j ≡ i)
+
 -- the answer to a question for place i: what the place has, or refusal 12 with the height of the carrier asked and
 -- the place named
 abbrev pub Placed : List Site → List ℤ → ℕ → ℕ → Result Place Refusal → Type 0
@@ -86,7 +91,7 @@ accepting (refused n values) = refused n values
 
 -- the codes after it: an accepted put makes v code i and leaves the others, a refused one leaves them all
 abbrev pub put_codes : List Site → List ℤ → ℕ → ℤ → List ℤ
-put_codes sites codes i v = cond (nat_lt i (length codes) && takes (slice_index_or sites i no_site) v) (slice_set codes i v) codes
+put_codes sites codes i v = if nat_lt i (length codes) && takes (slice_index_or sites i no_site) v then slice_set codes i v else codes
 
 -- how far one number is from another
 abbrev pub distance : ℤ → ℤ → ℕ

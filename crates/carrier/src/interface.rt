@@ -1,6 +1,7 @@
 // What can be asked of a carrier.
-ghost use Rattle.std.specs.Prelude.{◌≡◌, ℕ, true, List, length, ℤ, is_ok, IfOk, if◌then◌else◌, slice_set};
-ghost use Rattle.carrier.specs.Meaning.{Site, Meaning, Describes, Placed, Puts, site_of, takes, accepting, put_answer, put_codes};
+ghost use Rattle.std.specs.Prelude.{◌≡◌, ℕ, ◌-◌, true, List, length, ℤ, is_ok, IfOk, if◌then◌else◌, slice_set};
+ghost use Rattle.std.specs.Iterator.{at_most};
+ghost use Rattle.carrier.specs.Meaning.{Site, Meaning, Describes, GivesPlace, Looked, Placed, Puts, site_of, takes, accepting, put_answer, put_codes};
 ghost use Rattle.refusal.specs.Answers.{answer};
 
 use refusal::Refusal;
@@ -54,9 +55,59 @@ pub trait Carrier {
     fn height(&self) -> u8
         ensures { result ≡ level (rest self.now) };
 
-    // Code, low, high and seat of place `i`; refused with 12 where there is none.
+    // Code, low, high and seat of place `i`, if there is one.
+    fn get(&self, i: usize) -> Option<Place>
+        ensures { Looked (sites (rest self.now)) (codes self.now) i result };
+
+    // The same; refused with 12 where there is none.
     fn place(&self, i: usize) -> Result<Place, Refusal>
-        ensures { Placed (sites (rest self.now)) (codes self.now) (level (rest self.now)) i result };
+        ensures { Placed (sites (rest self.now)) (codes self.now) (level (rest self.now)) i result }
+    {
+        self.get(i).ok_or_else(|| Refusal::NoSuchPlace {
+            height: self.height(),
+            place: i,
+        })
+    }
+
+    // All places, in their order.
+    fn places(&self) -> Places<'_, Self>
+    where
+        Self: Sized,
+        ensures carrier { result.carrier.now ≡ self.now }
+        ensures next { result.next ≡ 0 }
+    {
+        Places {
+            carrier: self,
+            next: 0,
+            count: self.count(),
+        }
+    }
+}
+
+// The places of a carrier, one after another.
+#[derive(Drop)]
+pub struct Places<'a, C: Carrier> {
+    carrier: &'a C,
+    next: usize,
+    count: usize,
+    ghost counted: { count ≡ length (C.codes carrier.now) },
+}
+
+impl<'a, C: Carrier> Iterator for Places<'a, C> {
+    type Item = Place;
+
+    ghost next_gives = { λ s r t. (t.carrier ≡ s.carrier) × GivesPlace (C.sites (C.rest s.carrier.now)) (C.codes s.carrier.now) s.next t.next r };
+
+    ghost remaining = { λ s. at_most (length (C.codes s.carrier.now) - s.next) };
+
+    fn next(&mut self) -> Option<Place> {
+        if self.next >= self.count {
+            return None;
+        }
+        let at = self.carrier.get(self.next).unwrap();
+        self.next += 1;
+        Some(at)
+    }
 }
 
 // A carrier whose codes can be changed.

@@ -28,8 +28,8 @@ impl<C: Carrier> Carrier for &mut C {
         (**self).height()
     }
 
-    fn place(&self, i: usize) -> Result<Place, Refusal> {
-        (**self).place(i)
+    fn get(&self, i: usize) -> Option<Place> {
+        (**self).get(i)
     }
 }
 

@@ -6,7 +6,7 @@ mod lent;
 mod plain;
 mod samples;
 
-pub use interface::{Carrier, CarrierMut, Place, may_put};
+pub use interface::{Carrier, CarrierMut, Place, Places, may_put};
 pub use plain::{Plain, used};
 pub use samples::{Sample, Samples, SamplesMut};
 

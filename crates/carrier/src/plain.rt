@@ -1,6 +1,6 @@
 // The plain carrier: place i is sample i.
 ghost use Rattle.std.specs.Prelude.{◌≡◌, min, true, pos, Ok};
-ghost use Rattle.carrier.specs.Meaning.{Looked, Describes, Puts, site_of, takes};
+ghost use Rattle.carrier.specs.Meaning.{Describes, Puts, site_of, takes};
 ghost use Rattle.carrier.specs.Plain.{most, PlainRest, plain_site, plain_rest, plain_codes, plain_sites, plain_level};
 ghost use Rattle.carrier.specs.PlainMeaning.{plain_meaning};
 
@@ -33,47 +33,19 @@ fn place_of(v: u16, maximum: u16, i: usize) -> Place
 
 // A picture that is written has a maximum of the type of its samples, `M`, so that each of them can be it.
 #[derive(Drop)]
-pub struct Plain<S, M = u16> {
+pub struct Plain<S, M = u8> {
     samples: S,
     maximum: M,
 }
 
-impl<'a> Plain<&'a [u8]> {
-    // Opens the plain carrier of a picture that is only read, with one byte a sample. Codes above the maximum
-    // are read as they are.
-    pub fn reading(samples: &'a [u8], maximum: u8) -> Plain<&'a [u8]>
-        ensures picture { result.samples.now ≡ samples.now }
-        ensures maximum { result.maximum ≡ maximum }
-    {
-        Plain {
-            samples,
-            maximum: u16::from(maximum),
-        }
-    }
-}
-
-impl<'a> Plain<&'a mut [u8], u8> {
-    // The same on a picture that can be written.
-    pub fn writing(samples: &'a mut [u8], maximum: u8) -> Plain<&'a mut [u8], u8>
-        ensures picture { result.samples.now ≡ samples.old }
-        ensures lender { result.samples.ghost_name ≡ samples.entry.ghost_name }
+impl<S: Samples, M: Sample> Plain<S, M> {
+    // Opens the plain carrier of a picture, which can be written if its samples can. Codes above the maximum are read
+    // as they are.
+    pub fn over(samples: S, maximum: M) -> Plain<S, M>
+        ensures samples { result.samples ≡ samples }
         ensures maximum { result.maximum ≡ maximum }
     {
         Plain { samples, maximum }
-    }
-}
-
-impl<S: Samples, M: Sample> Plain<S, M> {
-    fn look(&self, i: usize) -> Option<Place>
-        ensures { Looked (plain_sites (plain_rest (M.value self.now.maximum) (S.Samples.values self.now.samples))) (plain_codes (S.Samples.values self.now.samples)) i result }
-    {
-        if i >= MOST {
-            return None;
-        }
-        match self.samples.sample(i) {
-            Some(v) => Some(place_of(v, self.maximum.widen(), i)),
-            None => None,
-        }
     }
 }
 
@@ -100,19 +72,19 @@ impl<S: Samples, M: Sample> Carrier for Plain<S, M> {
         0
     }
 
-    fn place(&self, i: usize) -> Result<Place, Refusal> {
-        match self.look(i) {
-            Some(place) => Ok(place),
-            None => Err(Refusal::NoSuchPlace {
-                height: 0,
-                place: i,
-            }),
+    #[tactic(auto, using(crate::proofs::PlainPlaces::past_limit, crate::proofs::PlainPlaces::past_end))]
+    fn get(&self, i: usize) -> Option<Place> {
+        if i >= MOST {
+            return None;
         }
+        let v = self.samples.sample(i)?;
+        Some(place_of(v, self.maximum.widen(), i))
     }
 }
 
 impl<M: Sample, S: SamplesMut<M>> Plain<S, M> {
-    // Makes `v`, which place `i` takes, its code.
+    // Makes `v`, which place `i` takes, its code. Each bottom carrier has these two lines, with clauses that say what they
+    // do to its codes; a trait for them would add a call to each and take away nothing.
     fn write(&mut self, i: usize, at: Place, v: i32)
         requires there { Describes (plain_sites (plain_rest (M.value self.old.maximum) (S.Samples.values self.old.samples))) (plain_codes (S.Samples.values self.old.samples)) i at }
         requires taken { takes (site_of at) v ≡ true }

@@ -2,7 +2,9 @@
 ghost use Rattle.std.specs.Prelude.{◌≡◌, ℕ, ◌<◌, ◌≤◌, List, [], ◌∷◌, length, MatchOption, slice_index};
 ghost use Rattle.carrier.specs.Storing.{Stored};
 
-// The type of a sample: a number that is at most `widest`.
+use std::convert::AsSlice;
+
+// The type of a sample: a number that is at most `widest`. `Into<u16>` would not do: of it no greatest value follows.
 pub trait Sample: Copy {
     ghost value: { Self → ℕ };
 
@@ -49,55 +51,39 @@ pub trait SamplesMut<M: Sample>: Samples {
     // The memory that they borrow, by the ghost names of its references.
     ghost lent: { Self → List ℕ };
 
-    // Makes `v` sample `i`. False, and nothing changed, where there is no such sample or it cannot hold `v`.
+    // Makes `v` sample `i`. False, and nothing changed, where there is no such sample or it cannot hold `v`. A `bool`, as
+    // of a set's `insert`, since no value and no reason stand beside it.
     fn store(&mut self, i: usize, v: i32) -> bool
         ensures stored { Stored M.widest i v (Self.Samples.values self.old) (Self.Samples.values self.new) result }
         ensures lent { lent self.new ≡ lent self.old };
 }
 
-// One byte a sample, in memory that is only read.
-impl Samples for &[u8] {
-    ghost values = { λ s. s.now };
+// One byte a sample, in whatever lends its bytes as a slice: a slice itself, an array, a `Vec`.
+impl<S: AsSlice<u8>> Samples for S {
+    ghost values = { S.items };
 
     fn total(&self) -> usize {
-        (*self).len()
+        self.as_slice().len()
     }
 
     fn sample(&self, i: usize) -> Option<u16> {
-        let bytes = *self;
-        if i < bytes.len() {
-            Some(u16::from(bytes[i]))
-        } else {
-            None
-        }
+        self.as_slice().get(i).copied().map(u16::from)
     }
 }
 
 // One byte a sample, in memory that can be written.
-impl Samples for &mut [u8] {
-    ghost values = { λ s. s.now };
-
-    fn total(&self) -> usize {
-        self.len()
-    }
-
-    fn sample(&self, i: usize) -> Option<u16> {
-        if i < (*self).len() {
-            Some(u16::from((*self)[i]))
-        } else {
-            None
-        }
-    }
-}
-
 impl SamplesMut<u8> for &mut [u8] {
     ghost lent = { λ s. s.ghost_name ∷ [] };
 
     fn store(&mut self, i: usize, v: i32) -> bool {
-        if i >= (*self).len() || v < 0 || v > 255 {
+        let Ok(v) = u8::try_from(v) else {
+            return false;
+        };
+        if i >= (*self).len() {
             return false;
         }
-        (*self)[i] = v as u8;
+        // not by `get_mut`: of a slice whose element was lent a proof knows the length, and no element
+        (*self)[i] = v;
         true
     }
 }

@@ -14,7 +14,7 @@ fn on_plain(code: i32, seat: usize) -> Result<Place, Refusal> {
 #[test]
 fn plain_answers_what_the_picture_holds(rt: HostRuntime) {
     let picture = [7u8, 255, 0];
-    let carrier = Plain::reading(&picture, 200);
+    let carrier = Plain::over(&picture, 200u8);
     assert_eq!(rt; carrier.count(), 3);
     assert_eq!(rt; carrier.height(), 0);
     assert_eq!(rt; carrier.place(0), on_plain(7, 0));
@@ -39,7 +39,7 @@ fn plain_answers_what_the_picture_holds(rt: HostRuntime) {
 #[test]
 fn an_empty_picture_has_no_places(rt: HostRuntime) {
     let picture: [u8; 0] = [];
-    let carrier = Plain::reading(&picture, 0);
+    let carrier = Plain::over(&picture, 0u8);
     assert_eq!(rt; carrier.count(), 0);
     assert_eq!(rt;
         carrier.place(0),
@@ -54,7 +54,7 @@ fn an_empty_picture_has_no_places(rt: HostRuntime) {
 #[test]
 fn a_put_moves_one_sample(rt: HostRuntime) {
     let mut picture = [7u8, 255, 0];
-    let mut carrier = Plain::writing(&mut picture, 200);
+    let mut carrier = Plain::over(&mut picture[..], 200u8);
     let refused = Refusal::ValueOutOfBounds { height: 0, seat: 1 };
     assert_eq!(rt; carrier.put(1, 201), Err(refused));
     assert_eq!(rt; carrier.put(1, -1), Err(refused));

@@ -1,5 +1,5 @@
 -- What the corner carrier says of its places. Assumes nothing.
-use Rattle.std.proofs.Common.{◌≡◌, ℕ, ◌<◌, ◌≤◌, min, Bool, true, List, map, length, get_or, set, ℤ, pos, ◌-ℤ◌, neg_ℤ, nat_abs, sym, ap, ◌∙◌, subst, ⊎_elim, arith}
+use Rattle.std.proofs.Common.{◌≡◌, ℕ, ◌<◌, ◌≤◌, min, Bool, true, List, map, length, slice_index, slice_index_or, slice_set, ℤ, pos, ◌-ℤ◌, neg_ℤ, unsigned_abs, sym, ap, ◌∙◌, subst, ⊎_elim, arith}
 use Rattle.std.specs.List.{range_with_len}
 use Rattle.std.proofs.lemmas.List.{length-set, get_or-set_same, get_or-set_other, ext_get_or}
 use Rattle.std.proofs.lemmas.Int.{ints}
@@ -23,7 +23,7 @@ pub past : (w c : ℕ) (s : List ℕ) (p : ℕ) → corner_count w c s ≤ p →
 past w c s p h = omega (arith, length-corner_codes w c s)
 
 module _ (w c : ℕ) (s : List ℕ) (p : ℕ) where
-  site_at : (m : ℕ) → p < corner_count w c s → get_or (corner_sites (corner_rest m w c s)) p no_site ≡ corner_site m (prediction w c s p) (seat w c p)
+  site_at : (m : ℕ) → p < corner_count w c s → slice_index_or (corner_sites (corner_rest m w c s)) p no_site ≡ corner_site m (prediction w c s p) (seat w c p)
   unfolding corner_rest
   site_at m h =
       corner_site_at (corner_rest m w c s) p no_site (omega (arith, count_others m w c s)) ∙ ap (λ n. corner_site m n (seat w c p)) (same_prediction m w c s p h)
@@ -42,10 +42,10 @@ module _ (w c : ℕ) (s : List ℕ) (p : ℕ) where
     diagonal_in = omega (arith, seat_in, at.at_seat, at.at_diagonal, diagonal_before w c (length s) p)
 
     -- place p, by its sample v and its prediction n
-    pub described : (m v n : ℕ) (q : Place) → n ≡ predicted (get_or s spot.left 0) (get_or s spot.above 0) (get_or s spot.diagonal 0) → v ≡ get_or s spot.seat 0 → v < 65536 → n < 65536 → m < 65536 → q.code ≡ corner_code n v → site_of q ≡ corner_site m n spot.seat → Describes (corner_sites (corner_rest m w c s)) (corner_codes w c s) p q
+    pub described : (m v n : ℕ) (q : Place) → n ≡ predicted (slice_index s spot.left) (slice_index s spot.above) (slice_index s spot.diagonal) → v ≡ slice_index s spot.seat → v < 65536 → n < 65536 → m < 65536 → q.code ≡ corner_code n v → site_of q ≡ corner_site m n spot.seat → Describes (corner_sites (corner_rest m w c s)) (corner_codes w c s) p q
     described m v n q predicts reads small-v small_n small-m code site =
-        let expected : n ≡ prediction w c s p = predicts ∙ (λ i. predicted (get_or s (at.at_left i) 0) (get_or s (at.at_above i) 0) (get_or s (at.at_diagonal i) 0)) in
-        let value : v ≡ get_or s (seat w c p) 0 = reads ∙ ap (λ k. get_or s k 0) at.at_seat in
+        let expected : n ≡ prediction w c s p = predicts ∙ (λ i. predicted (slice_index s (at.at_left i)) (slice_index s (at.at_above i)) (slice_index s (at.at_diagonal i))) in
+        let value : v ≡ slice_index s (seat w c p) = reads ∙ ap (λ k. slice_index s k) at.at_seat in
         let low = ap (λ (r : Site). r.low) site in
         let high = ap (λ (r : Site). r.high) site in
         record {
@@ -58,12 +58,12 @@ module _ (w c : ℕ) (s : List ℕ) (p : ℕ) where
         }
 
 -- a change at a seat changes no prediction
-kept_other : (s : List ℕ) (k n j : ℕ) → (k ≡ j → ⊥) → get_or (set s k n) j 0 ≡ get_or s j 0
+kept_other : (s : List ℕ) (k n j : ℕ) → (k ≡ j → ⊥) → slice_index (slice_set s k n) j ≡ slice_index s j
 kept_other s k n j ne = get_or-set_other s k j n 0 (λ e. ne (sym e))
 
 module _ (w c : ℕ) (s : List ℕ) (p n : ℕ) (here : p < corner_count w c s) where
   abbrev t : List ℕ
-  t = set s (seat w c p) n
+  t = slice_set s (seat w c p) n
 
   same_count : corner_count w c t ≡ corner_count w c s
   same_count = ap (λ k. places w c (min most k)) (length-set s (seat w c p) n)
@@ -76,21 +76,21 @@ module _ (w c : ℕ) (s : List ℕ) (p n : ℕ) (here : p < corner_count w c s) 
       (λ i. predicted (a i) (b i) (d i))
 
   -- only the code of the place whose seat it is changes
-  pub codes_set : (v : ℤ) → corner_code (prediction w c s p) n ≡ v → corner_codes w c t ≡ set (corner_codes w c s) p v
+  pub codes_set : (v : ℤ) → corner_code (prediction w c s p) n ≡ v → corner_codes w c t ≡ slice_set (corner_codes w c s) p v
   codes_set v new =
-      ext_get_or (pos 0) (corner_codes w c t) (set (corner_codes w c s) p v)
+      ext_get_or (pos 0) (corner_codes w c t) (slice_set (corner_codes w c s) p v)
       (length-corner_codes w c t ∙ same_count ∙ sym (length-corner_codes w c s) ∙ sym (length-set (corner_codes w c s) p v))
       (λ q h.
       let there : q < corner_count w c s = omega (arith, h, length-corner_codes w c t, same_count) in
       corner_code_at w c t q (pos 0) (omega (arith, there, same_count))
-      ∙ ap (λ k. corner_code k (get_or t (seat w c q) 0)) (same_predictions q there)
+      ∙ ap (λ k. corner_code k (slice_index t (seat w c q))) (same_predictions q there)
       ∙ ⊎_elim
       (λ (e : q ≡ p).
-      ap (λ k. corner_code (prediction w c s k) (get_or t (seat w c k) 0)) e
+      ap (λ k. corner_code (prediction w c s k) (slice_index t (seat w c k))) e
       ∙ ap (corner_code (prediction w c s p)) (get_or-set_same s (seat w c p) n 0 (omega (arith, seat_below w c (min most (length s)) p here)))
       ∙ new
       ∙ sym (get_or-set_same (corner_codes w c s) p v (pos 0) (omega (arith, here, length-corner_codes w c s)))
-      ∙ ap (λ k. get_or (set (corner_codes w c s) p v) k (pos 0)) (sym e))
+      ∙ ap (λ k. slice_index_or (slice_set (corner_codes w c s) p v) k (pos 0)) (sym e))
       (λ (ne : q ≡ p → ⊥).
       ap (corner_code (prediction w c s q)) (kept_other s (seat w c p) n (seat w c q) (λ e. ne (sym (seats_apart w c _ p q here there e))))
       ∙ sym (corner_code_at w c s q (pos 0) there)
@@ -102,7 +102,7 @@ module _ (w c : ℕ) (s : List ℕ) (p n : ℕ) (here : p < corner_count w c s) 
   rest_set m =
       ap (λ l. record { maximum = m; width = w; channels = c; others = l })
       (ap (λ k. blanked (map (seat w c) (range_with_len 0 k)) t) same_count
-      ∙ ap (λ k. blanked (corner_seats w c s) (set s k n)) (sym (corner_seat_at w c s p here))
+      ∙ ap (λ k. blanked (corner_seats w c s) (slice_set s k n)) (sym (corner_seat_at w c s p here))
       ∙ blanked-set (corner_seats w c s) s p n (omega (arith, here, length-corner_seats w c s)))
 
 -- what storing a value that place i takes does to a corner carrier
@@ -125,27 +125,27 @@ module _ (m widest w c : ℕ) (s t : List ℕ) (i : ℕ) (p : Place) (v u : ℤ)
   inside : seat w c i < length s
   inside = omega (arith, seat_below w c (min most (length s)) i here)
 
-  now : t ≡ set s (seat w c i) (nat_abs (v -ℤ p.low))
+  now : t ≡ slice_set s (seat w c i) (unsigned_abs (v -ℤ p.low))
   now =
       let bounds = taken (site_of p) v fine in
       let can : Holds widest p.seat (v -ℤ p.low) s = (omega (arith, at_seat, inside), (omega (arith, ints, bounds.0), omega (arith, ints, low, high, bounds.1))) in
-      stored widest p.seat (v -ℤ p.low) s t r (subst (λ z. Stored widest p.seat z s t r) less kept) can ∙ ap (λ k. set s k (nat_abs (v -ℤ p.low))) at_seat
+      stored widest p.seat (v -ℤ p.low) s t r (subst (λ z. Stored widest p.seat z s t r) less kept) can ∙ ap (λ k. slice_set s k (unsigned_abs (v -ℤ p.low))) at_seat
 
-  value : corner_code (prediction w c s i) (nat_abs (v -ℤ p.low)) ≡ v
+  value : corner_code (prediction w c s i) (unsigned_abs (v -ℤ p.low)) ≡ v
   value =
       let bounds = taken (site_of p) v fine in
       let whole = pos_nat_abs (v -ℤ p.low) (omega (arith, ints, bounds.0)) in
       omega (arith, ints, whole, low)
 
-  written_codes : corner_codes w c t ≡ set (corner_codes w c s) i v
+  written_codes : corner_codes w c t ≡ slice_set (corner_codes w c s) i v
   written_codes = ap (corner_codes w c) now ∙ codes_set w c s i _ here v value
 
   written_moves : Moves (corner_sites (corner_rest m w c s)) i (corner_codes w c s) (corner_codes w c t) s t
   written_moves =
       let seated : seat_at (corner_sites (corner_rest m w c s)) i ≡ seat w c i = ap (λ (q : Site). q.seat) (site_at w c s i m here) in
       moved (corner_sites (corner_rest m w c s)) i (corner_codes w c s) s p.low v (corner_codes w c t) t d.within (omega (arith, seated, inside))
-      (corner_code_at w c s i (pos 0) here ∙ ap (λ k. corner_code (prediction w c s i) (get_or s k 0)) (sym seated) ∙ omega (arith, ints, low))
-      written_codes (now ∙ ap (λ k. set s k (nat_abs (v -ℤ p.low))) (sym seated)) (taken (site_of p) v fine).0
+      (corner_code_at w c s i (pos 0) here ∙ ap (λ k. corner_code (prediction w c s i) (slice_index s k)) (sym seated) ∙ omega (arith, ints, low))
+      written_codes (now ∙ ap (λ k. slice_set s k (unsigned_abs (v -ℤ p.low))) (sym seated)) (taken (site_of p) v fine).0
 
-  pub written : (corner_codes w c t ≡ set (corner_codes w c s) i v) × Moves (corner_sites (corner_rest m w c s)) i (corner_codes w c s) (corner_codes w c t) s t × (corner_rest m w c t ≡ corner_rest m w c s)
+  pub written : (corner_codes w c t ≡ slice_set (corner_codes w c s) i v) × Moves (corner_sites (corner_rest m w c s)) i (corner_codes w c s) (corner_codes w c t) s t × (corner_rest m w c t ≡ corner_rest m w c s)
   written = (written_codes, written_moves, ap (corner_rest m w c) now ∙ rest_set w c s i _ here m)

@@ -1,7 +1,7 @@
 // The corner carrier: the lower right sample of each block of 2 x 2 pixels, by its distance from a prediction that the
 // block's other samples make. These are never seats, so a put leaves every prediction.
 ghost use Rattle.std.specs.Prelude.{◌≡◌, ◌<◌, min, true, length, Ok, slice_index};
-ghost use Rattle.carrier.specs.Meaning.{Looked, Describes, Puts, site_of, takes};
+ghost use Rattle.carrier.specs.Meaning.{Describes, Puts, site_of, takes};
 ghost use Rattle.carrier.specs.Plain.{most};
 ghost use Rattle.corner.specs.Channels.{counted, channel_count};
 ghost use Rattle.corner.specs.Corner.{CornerRest, corner_code, corner_site, corner_rest, corner_codes, corner_sites, corner_level};
@@ -31,10 +31,7 @@ fn known<S: Samples>(samples: &S, i: usize) -> u16
     requires { i < length (S.Samples.values samples.now) }
     ensures { result ≡ slice_index (S.Samples.values samples.now) i }
 {
-    let Some(v) = samples.sample(i) else {
-        unreachable()
-    };
-    v
+    samples.sample(i).unwrap()
 }
 
 // What the neighbours of a seat predict for it.
@@ -50,41 +47,19 @@ fn prediction<S: Samples>(samples: &S, spot: Spot) -> u16
     predict(left, above, diagonal)
 }
 
+// A picture that is written has a maximum of the type of its samples, `M`, so that each of them can be it.
 #[derive(Drop)]
-pub struct Corner<S, M> {
+pub struct Corner<S, M = u8> {
     samples: S,
     maximum: M,
     grid: Grid,
 }
 
-impl<'a> Corner<&'a [u8], u8> {
-    // Opens the corner carrier of a picture that is only read, with one byte a sample, of this width in pixels. A
-    // channel count that is not 3 counts as 1.
-    pub fn reading(samples: &'a [u8], maximum: u8, width: u16, channels: u8) -> Corner<&'a [u8], u8>
-        ensures picture { result.samples.now ≡ samples.now }
-        ensures maximum { result.maximum ≡ maximum }
-        ensures width { result.grid.width ≡ width }
-        ensures channels { channel_count result.grid.channels ≡ counted channels }
-    {
-        let grid = Grid::new(width, channels);
-        Corner {
-            samples,
-            maximum,
-            grid,
-        }
-    }
-}
-
-impl<'a> Corner<&'a mut [u8], u8> {
-    // The same on a picture that can be written.
-    pub fn writing(
-        samples: &'a mut [u8],
-        maximum: u8,
-        width: u16,
-        channels: u8,
-    ) -> Corner<&'a mut [u8], u8>
-        ensures picture { result.samples.now ≡ samples.old }
-        ensures lender { result.samples.ghost_name ≡ samples.entry.ghost_name }
+impl<S: Samples, M: Sample> Corner<S, M> {
+    // Opens the corner carrier of a picture of this width in pixels, which can be written if its samples can. A channel
+    // count that is not 3 counts as 1.
+    pub fn over(samples: S, maximum: M, width: u16, channels: u8) -> Corner<S, M>
+        ensures samples { result.samples ≡ samples }
         ensures maximum { result.maximum ≡ maximum }
         ensures width { result.grid.width ≡ width }
         ensures channels { channel_count result.grid.channels ≡ counted channels }
@@ -95,26 +70,12 @@ impl<'a> Corner<&'a mut [u8], u8> {
             grid: Grid::new(width, channels),
         }
     }
-}
 
-impl<S: Samples, M: Sample> Corner<S, M> {
     // How many samples of the picture are used.
     fn used(&self) -> usize
         ensures { result ≡ min most (length (S.Samples.values self.now.samples)) }
     {
         used(self.samples.total())
-    }
-
-    fn look(&self, i: usize) -> Option<Place>
-        ensures { Looked (corner_sites (corner_rest (M.value self.now.maximum) self.now.grid.width (channel_count self.now.grid.channels) (S.Samples.values self.now.samples))) (corner_codes self.now.grid.width (channel_count self.now.grid.channels) (S.Samples.values self.now.samples)) i result }
-    {
-        let total = self.used();
-        let Some(spot) = self.grid.spot(i, total) else {
-            return None;
-        };
-        let m = prediction(&self.samples, spot);
-        let v = known(&self.samples, spot.seat);
-        Some(place_of(v, m, self.maximum.widen(), spot.seat))
     }
 }
 
@@ -141,19 +102,17 @@ impl<S: Samples, M: Sample> Carrier for Corner<S, M> {
         0
     }
 
-    fn place(&self, i: usize) -> Result<Place, Refusal> {
-        match self.look(i) {
-            Some(place) => Ok(place),
-            None => Err(Refusal::NoSuchPlace {
-                height: 0,
-                place: i,
-            }),
-        }
+    #[tactic(auto, using(crate::proofs::CornerPlaces::past))]
+    fn get(&self, i: usize) -> Option<Place> {
+        let spot = self.grid.spot(i, self.used())?;
+        let m = prediction(&self.samples, spot);
+        let v = known(&self.samples, spot.seat);
+        Some(place_of(v, m, self.maximum.widen(), spot.seat))
     }
 }
 
 impl<M: Sample, S: SamplesMut<M>> Corner<S, M> {
-    // Makes `v`, which place `i` takes, its code.
+    // Makes `v`, which place `i` takes, its code. The lines are those of `Plain`; what they do to the codes is not.
     fn write(&mut self, i: usize, at: Place, v: i32)
         requires there { Describes (corner_sites (corner_rest (M.value self.old.maximum) self.old.grid.width (channel_count self.old.grid.channels) (S.Samples.values self.old.samples))) (corner_codes self.old.grid.width (channel_count self.old.grid.channels) (S.Samples.values self.old.samples)) i at }
         requires taken { takes (site_of at) v ≡ true }

@@ -11,17 +11,12 @@ fn edge(left: u16, above: u16, diagonal: u16) -> u16
     least + (most - diagonal.max(least).min(most))
 }
 
-// Whatever is predicted is a median.
-fn predictions_are_medians()
-    ensures { (a b d r : ℕ) → r ≡ predicted a b d → IsMedian (pos a) (pos b) (pos a +ℤ pos b -ℤ pos d) (pos r) }
-{}
-
 // What a sample would be if it followed its neighbours: to the left, above and above left. It is the median of `left`,
 // `above` and `left + above - diagonal`.
+#[tactic(auto, using(crate::proofs::Median::median))]
 pub fn predict(left: u16, above: u16, diagonal: u16) -> u16
     ensures value { result ≡ predicted left above diagonal }
     ensures median { IsMedian (pos left) (pos above) (pos left +ℤ pos above -ℤ pos diagonal) (pos result) }
 {
-    predictions_are_medians();
     edge(left, above, diagonal)
 }

@@ -13,7 +13,7 @@ fn the_predictor_follows_an_edge_or_a_slope(rt: HostRuntime) {
 }
 
 fn count(samples: &[u8], width: u16, channels: u8) -> usize {
-    Corner::reading(samples, 255, width, channels).count()
+    Corner::over(samples, 255u8, width, channels).count()
 }
 
 #[test]
@@ -61,7 +61,7 @@ fn places_of_an_odd_picture(rt: HostRuntime) {
         11, 14, 10, 255, 9, //
         1, 2, 3, 4, 5,
     ];
-    let carrier = Corner::reading(&samples, 200, 5, 1);
+    let carrier = Corner::over(&samples, 200u8, 5, 1);
     assert_eq!(rt; carrier.height(), 0);
     // (11, 12, 10) predicts 12, and (10, 20, 13) predicts 17; the second sample is above the maximum
     assert_eq!(rt; carrier.place(0), at(2, -12, 188, 6));
@@ -74,7 +74,7 @@ fn places_of_an_odd_picture(rt: HostRuntime) {
 #[test]
 fn channels_are_places_of_one_block(rt: HostRuntime) {
     let samples = [1u8, 20, 0, 2, 30, 9, 3, 40, 9, 4, 50, 0];
-    let carrier = Corner::reading(&samples, 255, 2, 3);
+    let carrier = Corner::over(&samples, 255u8, 2, 3);
     assert_eq!(rt; carrier.count(), 3);
     assert_eq!(rt; carrier.place(0), at(1, -3, 252, 9));
     assert_eq!(rt; carrier.place(1), at(10, -40, 215, 10));
@@ -84,7 +84,7 @@ fn channels_are_places_of_one_block(rt: HostRuntime) {
 #[test]
 fn a_put_moves_the_seat_alone(rt: HostRuntime) {
     let mut samples = [10u8, 12, 11, 14];
-    let mut carrier = Corner::writing(&mut samples, 100, 2, 1);
+    let mut carrier = Corner::over(&mut samples[..], 100u8, 2, 1);
     assert_eq!(rt; carrier.place(0), at(2, -12, 88, 3));
     let refused = Refusal::ValueOutOfBounds { height: 0, seat: 3 };
     assert_eq!(rt; carrier.put(0, -13), Err(refused));

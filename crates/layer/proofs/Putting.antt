@@ -1,5 +1,5 @@
 -- What a put through a layer answers and leaves. Assumes nothing.
-use Rattle.std.proofs.Common.{◌≡◌, ℕ, ◌≤◌, Bool, true, false, cond, List, [], ◌∷◌, length, ℤ, Err, refl}
+use Rattle.std.proofs.Common.{◌≡◌, ℕ, ◌≤◌, Bool, true, false, if◌then◌else◌, List, [], ◌∷◌, length, ℤ, Err, refl}
 use Rattle.std.proofs.lemmas.Bool.{le-ltb}
 use Rattle.refusal.specs.declared.Refusal.{Refusal}
 use Rattle.refusal.specs.Numbers.{Says}
@@ -8,7 +8,7 @@ use Rattle.carrier.specs.Meaning.{Site, Puts}
 use Rattle.carrier.proofs.Putting.{stays}
 
 -- a function of the codes after a put, by what it is of the codes with v
-pub cond_alike : {A B : Type 0} (f : A → B) (b : Bool) (x y : A) (z : B) → (b ≡ true → f x ≡ z) → f (cond b x y) ≡ cond b z (f y)
+pub cond_alike : {A B : Type 0} (f : A → B) (b : Bool) (x y : A) (z : B) → (b ≡ true → f x ≡ z) → f (if b then x else y) ≡ (if b then z else f y)
 cond_alike f true x y z same = same refl
 cond_alike f false x y z same = refl
 

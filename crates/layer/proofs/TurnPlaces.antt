@@ -6,6 +6,10 @@ use Rattle.carrier.specs.Meaning.{Site, Describes, site_of}
 use Rattle.layer.specs.Turn.{turned_site, turned_sites, turned_codes}
 use Rattle.layer.specs.TurnMeaning.{length-turned_codes, turned_code_at, turned_site_at}
 
+-- a turn has as many places as the carrier below
+pub as_many : (n : ℕ) (codes : List ℤ) → n ≡ length codes → n ≡ length (turned_codes codes)
+as_many n codes e = e ∙ sym (length-turned_codes codes)
+
 pub past : (codes : List ℤ) (i : ℕ) → length codes ≤ i → length (turned_codes codes) ≤ i
 past codes i h = omega (arith, length-turned_codes codes)
 

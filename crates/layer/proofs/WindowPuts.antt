@@ -1,5 +1,5 @@
 -- What a put through a window does, by the put below. Assumes nothing.
-use Rattle.std.proofs.Common.{◌≡◌, ℕ, ◌+◌, ◌-◌, ◌^◌, ◌<◌, min, Bool, true, false, cond, ◌&&◌, ltb, List, length, get_or, take, drop, set, ℤ, pos, Result, sym, refl, ap, ◌∙◌, subst, ⊎_elim, arith, drop-set-lt}
+use Rattle.std.proofs.Common.{◌≡◌, ℕ, ◌+◌, ◌-◌, ◌^◌, ◌<◌, min, Bool, true, false, if◌then◌else◌, ◌&&◌, nat_lt, List, length, slice_index, slice_index_or, take, drop, slice_set, ℤ, pos, Result, sym, refl, ap, ◌∙◌, subst, ⊎_elim, arith, drop-set-lt}
 use lib.Seq.{take-set-le, take-set-lt, drop-set-add}
 use Rattle.std.proofs.lemmas.List.{ext_get_or, get_or-set_other, get_or-set_same, length-set}
 use Rattle.std.proofs.lemmas.Bool.{cases_eq, lt-ltb}
@@ -13,48 +13,48 @@ use Rattle.layer.specs.WindowMeaning.{length-windowed, windowed_at, windowed_sea
 use Rattle.layer.proofs.Putting.{cond_alike}
 
 -- a change of the sample at one of the numbers is not seen once blanked
-one_hidden : (ks before after : List ℕ) (i : ℕ) → i < length ks → length after ≡ length before → ((k : ℕ) → (k ≡ get_or ks i 0 → ⊥) → get_or after k 0 ≡ get_or before k 0) → blanked ks after ≡ blanked ks before
+one_hidden : (ks before after : List ℕ) (i : ℕ) → i < length ks → length after ≡ length before → ((k : ℕ) → (k ≡ slice_index ks i → ⊥) → slice_index after k ≡ slice_index before k) → blanked ks after ≡ blanked ks before
 one_hidden ks before after i h long others =
-    ap (blanked ks) one_set ∙ blanked-set ks before i (get_or after (get_or ks i 0) 0) h
+    ap (blanked ks) one_set ∙ blanked-set ks before i (slice_index after (slice_index_or ks i 0)) h
   where
-    one_set : after ≡ set before (get_or ks i 0) (get_or after (get_or ks i 0) 0)
+    one_set : after ≡ slice_set before (slice_index ks i) (slice_index after (slice_index_or ks i 0))
     one_set =
-        ext_get_or 0 after (set before (get_or ks i 0) (get_or after (get_or ks i 0) 0))
-        (long ∙ sym (length-set before (get_or ks i 0) (get_or after (get_or ks i 0) 0)))
+        ext_get_or 0 after (slice_set before (slice_index ks i) (slice_index after (slice_index_or ks i 0)))
+        (long ∙ sym (length-set before (slice_index ks i) (slice_index after (slice_index_or ks i 0))))
         (λ k low.
         ⊎_elim
-        (λ (e : k ≡ get_or ks i 0).
-        ap (λ n. get_or after n 0) e
-        ∙ sym (get_or-set_same before (get_or ks i 0) (get_or after (get_or ks i 0) 0) 0 (omega arith))
-        ∙ ap (λ n. get_or (set before (get_or ks i 0) (get_or after (get_or ks i 0) 0)) n 0) (sym e))
-        (λ (ne : k ≡ get_or ks i 0 → ⊥). others k ne ∙ sym (get_or-set_other before (get_or ks i 0) k (get_or after (get_or ks i 0) 0) 0 ne))
-        (cases_eq k (get_or ks i 0)))
+        (λ (e : k ≡ slice_index ks i).
+        ap (λ n. slice_index after n) e
+        ∙ sym (get_or-set_same before (slice_index ks i) (slice_index after (slice_index_or ks i 0)) 0 (omega arith))
+        ∙ ap (λ n. slice_index_or (slice_set before (slice_index ks i) (slice_index after (slice_index_or ks i 0))) n 0) (sym e))
+        (λ (ne : k ≡ slice_index ks i → ⊥). others k ne ∙ sym (get_or-set_other before (slice_index ks i) k (slice_index after (slice_index_or ks i 0)) 0 ne))
+        (cases_eq k (slice_index ks i)))
 
 -- a put of v at place start + i below is a put of v at place i of the window
 module _ (start shown height : ℕ) (sites : List Site) (i : ℕ) (v : ℤ) (codes codes' : List ℤ) (before after : List ℕ) (answer : Result (Unit {0}) Refusal) (paired : length sites ≡ length codes) (there : i < length (windowed start shown codes)) (puts : Puts height sites (start + i) v codes codes' before after answer) where
   low : i < shown
   low = (place_below start shown codes i there).0
 
-  here : ltb (start + i) (length codes) ≡ true
+  here : nat_lt (start + i) (length codes) ≡ true
   here = lt-ltb (start + i) (length codes) (place_below start shown codes i there).1
 
-  here_windowed : ltb i (length (windowed start shown codes)) ≡ true
+  here_windowed : nat_lt i (length (windowed start shown codes)) ≡ true
   here_windowed = lt-ltb i (length (windowed start shown codes)) there
 
-  site : get_or (windowed start shown sites) i no_site ≡ get_or sites (start + i) no_site
+  site : slice_index_or (windowed start shown sites) i no_site ≡ slice_index_or sites (start + i) no_site
   site = windowed_at start shown sites i no_site low
 
-  allowed : (ltb (start + i) (length codes) && takes (get_or sites (start + i) no_site) v) ≡ (ltb i (length (windowed start shown codes)) && takes (get_or (windowed start shown sites) i no_site) v)
+  allowed : (nat_lt (start + i) (length codes) && takes (slice_index_or sites (start + i) no_site) v) ≡ (nat_lt i (length (windowed start shown codes)) && takes (slice_index_or (windowed start shown sites) i no_site) v)
   allowed = λ j. (here ∙ sym here_windowed) j && takes (sym site j) v
 
-  set_windowed : windowed start shown (set codes (start + i) v) ≡ set (windowed start shown codes) i v
+  set_windowed : windowed start shown (slice_set codes (start + i) v) ≡ slice_set (windowed start shown codes) i v
   unfolding windowed
   set_windowed = ap (take shown) (drop-set-add start codes i v) ∙ take-set-lt shown (drop start codes) i v low
 
   codes_windowed : windowed start shown (put_codes sites codes (start + i) v) ≡ put_codes (windowed start shown sites) (windowed start shown codes) i v
   codes_windowed =
-      cond_alike (windowed start shown) (ltb (start + i) (length codes) && takes (get_or sites (start + i) no_site) v) (set codes (start + i) v) codes (set (windowed start shown codes) i v) (λ _. set_windowed)
-      ∙ ap (λ b. cond b (set (windowed start shown codes) i v) (windowed start shown codes)) allowed
+      cond_alike (windowed start shown) (nat_lt (start + i) (length codes) && takes (slice_index_or sites (start + i) no_site) v) (slice_set codes (start + i) v) codes (slice_set (windowed start shown codes) i v) (λ _. set_windowed)
+      ∙ ap (λ b. if b then slice_set (windowed start shown codes) i v else windowed start shown codes) allowed
 
   pub window_puts : Puts (raised height) (windowed start shown sites) i v (windowed start shown codes) (windowed start shown codes') before after answer
   window_puts = record {
@@ -67,13 +67,13 @@ module _ (start shown height : ℕ) (sites : List Site) (i : ℕ) (v : ℤ) (cod
   }
 
   -- the hidden codes stay
-  unchanged : (f : List ℤ → List ℤ) → f (set codes (start + i) v) ≡ f codes → f codes' ≡ f codes
+  unchanged : (f : List ℤ → List ℤ) → f (slice_set codes (start + i) v) ≡ f codes → f codes' ≡ f codes
   unchanged f same =
       ap f puts.code
-      ∙ cond_alike f (ltb (start + i) (length codes) && takes (get_or sites (start + i) no_site) v) (set codes (start + i) v) codes (f codes) (λ _. same)
-      ∙ both (ltb (start + i) (length codes) && takes (get_or sites (start + i) no_site) v) (f codes)
+      ∙ cond_alike f (nat_lt (start + i) (length codes) && takes (slice_index_or sites (start + i) no_site) v) (slice_set codes (start + i) v) codes (f codes) (λ _. same)
+      ∙ both (nat_lt (start + i) (length codes) && takes (slice_index_or sites (start + i) no_site) v) (f codes)
     where
-      both : (b : Bool) (x : List ℤ) → cond b x x ≡ x
+      both : (b : Bool) (x : List ℤ) → (if b then x else x) ≡ x
       both true x = refl
       both false x = refl
 

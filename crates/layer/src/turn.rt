@@ -46,23 +46,6 @@ fn turned(at: Place) -> Place
     }
 }
 
-// A turn has as many places as the carrier below.
-fn as_many(below: usize) -> usize
-    ensures { (codes : List ℤ) → below ≡ length codes → result ≡ length (turned_codes codes) }
-{
-    below
-}
-
-// What a turn shows at a place, by the answer from below.
-fn shown(below: Result<Place, Refusal>) -> Option<Place>
-    ensures { (sites : List Site) (codes : List ℤ) (height i : ℕ) → Placed sites codes height i below → Looked (turned_sites sites) (turned_codes codes) i result }
-{
-    match below {
-        Ok(at) => Some(turned(at)),
-        Err(_) => None,
-    }
-}
-
 impl<C: Carrier> Carrier for Turn<C> {
     ghost Rest = { C.Carrier.Rest };
 
@@ -78,31 +61,33 @@ impl<C: Carrier> Carrier for Turn<C> {
 
     ghost meaning = { turn_meaning (λ t. t.below) C.Carrier.meaning };
 
+    #[tactic(auto, using(crate::proofs::TurnPlaces::as_many))]
     fn count(&self) -> usize {
-        as_many(self.below.count())
+        self.below.count()
     }
 
     fn height(&self) -> u8 {
         height_over(&self.below)
     }
 
-    fn place(&self, i: usize) -> Result<Place, Refusal> {
-        match shown(self.below.place(i)) {
-            Some(at) => Ok(at),
-            None => Err(Refusal::NoSuchPlace {
-                height: self.height(),
-                place: i,
-            }),
-        }
+    #[tactic(auto, using(crate::proofs::TurnPlaces::past))]
+    fn get(&self, i: usize) -> Option<Place> {
+        let at = self.below.get(i)?;
+        Some(turned(at))
     }
 }
 
-// The value to put below, so that the turn shows `v`. No place takes i32::MIN or i32::MAX, so the answer is right there
-// too.
-fn negated(v: i32) -> i32
-    ensures { (height : ℕ) (sites : List Site) (i : ℕ) (u w' : ℤ) (codes codes' : List ℤ) (before after : List ℕ) (answer : Result (Unit {0}) Refusal) (at : Place) → Describes (turned_sites sites) (turned_codes codes) i at → Puts height sites i w' codes codes' before after answer → w' ≡ result → u ≡ v → Puts (raised height) (turned_sites sites) i u (turned_codes codes) (turned_codes codes') before after answer }
-{
-    opposite(v)
+impl<C: CarrierMut> Turn<C> {
+    // Puts `w` at place `i` below, which is what the turn shows as `v`.
+    fn put_below(&mut self, i: usize, w: i32, v: i32) -> Result<(), Refusal>
+        requires place { (at : Place) × Describes (turned_sites (C.Carrier.sites (C.Carrier.rest self.old.below))) (turned_codes (C.Carrier.codes self.old.below)) i at }
+        requires value { w ≡ saturate_to_bits 31 (neg_ℤ v) }
+        ensures puts { Puts (raised (C.Carrier.level (C.Carrier.rest self.old.below))) (turned_sites (C.Carrier.sites (C.Carrier.rest self.old.below))) i v (turned_codes (C.Carrier.codes self.old.below)) (turned_codes (C.Carrier.codes self.new.below)) (C.Carrier.picture self.old.below) (C.Carrier.picture self.new.below) result }
+        ensures rest { C.Carrier.rest self.new.below ≡ C.Carrier.rest self.old.below }
+        ensures lent { C.CarrierMut.lent self.new.below ≡ C.CarrierMut.lent self.old.below }
+    {
+        self.below.put(i, w)
+    }
 }
 
 impl<C: CarrierMut> CarrierMut for Turn<C> {
@@ -110,6 +95,6 @@ impl<C: CarrierMut> CarrierMut for Turn<C> {
 
     fn put(&mut self, i: usize, v: i32) -> Result<(), Refusal> {
         let _at = asked(self, i)?;
-        self.below.put(i, negated(v))
+        self.put_below(i, opposite(v), v)
     }
 }

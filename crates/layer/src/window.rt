@@ -1,5 +1,5 @@
 // The window: some places in a row of those below.
-ghost use Rattle.std.specs.Prelude.{◌≡◌, ℕ, ◌+◌, ◌-◌, ◌^◌, ◌<◌, min, List, length, ℤ};
+ghost use Rattle.std.specs.Prelude.{◌≡◌, ℕ, ◌+◌, ◌-◌, ◌^◌, ◌<◌, ◌≤◌, min, MatchOption, List, length, ℤ};
 ghost use Rattle.carrier.specs.Meaning.{Placed, Looked, Puts};
 ghost use Rattle.layer.specs.Over.{raised};
 ghost use Rattle.layer.specs.Window.{WindowRest, windowed, window_rest, window_sites, window_level};
@@ -31,46 +31,13 @@ impl<C> Window<C> {
     }
 }
 
-// How many of `count` places a window shows.
-fn number_shown(start: usize, shown: usize, count: usize) -> usize
-    ensures { result ≡ min shown (count - start) }
-{
-    count.saturating_sub(start).min(shown)
-}
-
-// That number is the count of the window.
-fn counted(start: usize, shown: usize, count: usize) -> usize
-    ensures { (codes : List ℤ) → count ≡ length codes → result ≡ length (windowed start shown codes) }
-{
-    number_shown(start, shown, count)
-}
-
-// The number below of place `i`. A sum past the largest number is taken as that, at which no carrier has a place.
-fn number_below(start: usize, i: usize) -> usize
-    ensures { result ≡ min (start + i) (2 ^ 64 - 1) }
-{
-    start.saturating_add(i)
-}
-
 impl<C: Carrier> Window<C> {
-    // What the window shows at place `i`, by the answer for place `k` below.
-    fn seen(&self, below: Result<Place, Refusal>) -> Option<Place>
-        ensures { (i k : ℕ) → i < self.now.shown → k ≡ min (self.now.start + i) (2 ^ 64 - 1) → Placed (C.Carrier.sites (C.Carrier.rest self.now.below)) (C.Carrier.codes self.now.below) (C.Carrier.level (C.Carrier.rest self.now.below)) k below → Looked (windowed self.now.start self.now.shown (C.Carrier.sites (C.Carrier.rest self.now.below))) (windowed self.now.start self.now.shown (C.Carrier.codes self.now.below)) i result }
+    // The number below of place `i`, if the window shows so many. A sum past the largest number is taken as that, at which
+    // no carrier has a place.
+    fn number_below(&self, i: usize) -> Option<usize>
+        ensures { MatchOption result (self.now.shown ≤ i) (λ k. (i < self.now.shown) × (k ≡ min (self.now.start + i) (2 ^ 64 - 1))) }
     {
-        match below {
-            Ok(at) => Some(at),
-            Err(_) => None,
-        }
-    }
-
-    fn look(&self, i: usize) -> Option<Place>
-        ensures { Looked (windowed self.now.start self.now.shown (C.Carrier.sites (C.Carrier.rest self.now.below))) (windowed self.now.start self.now.shown (C.Carrier.codes self.now.below)) i result }
-    {
-        if i < self.shown {
-            self.seen(self.below.place(number_below(self.start, i)))
-        } else {
-            None
-        }
+        (i < self.shown).then(|| self.start.saturating_add(i))
     }
 }
 
@@ -89,22 +56,22 @@ impl<C: Carrier> Carrier for Window<C> {
 
     ghost meaning = { window_meaning (λ t. t.below) (λ t. t.start) (λ t. t.shown) C.Carrier.meaning };
 
+    #[tactic(auto, using(crate::proofs::WindowPlaces::as_many))]
     fn count(&self) -> usize {
-        counted(self.start, self.shown, self.below.count())
+        self.below
+            .count()
+            .saturating_sub(self.start)
+            .min(self.shown)
     }
 
     fn height(&self) -> u8 {
         height_over(&self.below)
     }
 
-    fn place(&self, i: usize) -> Result<Place, Refusal> {
-        match self.look(i) {
-            Some(at) => Ok(at),
-            None => Err(Refusal::NoSuchPlace {
-                height: self.height(),
-                place: i,
-            }),
-        }
+    #[tactic(auto, using(crate::proofs::WindowPlaces::unshown))]
+    fn get(&self, i: usize) -> Option<Place> {
+        let k = self.number_below(i)?;
+        self.below.get(k)
     }
 }
 
@@ -124,9 +91,10 @@ impl<C: CarrierMut> Window<C> {
 impl<C: CarrierMut> CarrierMut for Window<C> {
     ghost lent = { λ t. C.CarrierMut.lent t.below };
 
+    #[tactic(auto, using(crate::proofs::WindowPlaces::unshown))]
     fn put(&mut self, i: usize, v: i32) -> Result<(), Refusal> {
         let _at = asked(self, i)?;
-        let k = number_below(self.start, i);
+        let k = self.number_below(i).unwrap();
         self.put_below(i, k, v)
     }
 }

@@ -1,14 +1,14 @@
 -- A pass over a carrier that counts: what is counted so far and what is left make up the whole. Assumes nothing.
-use Rattle.std.proofs.Common.{◌≡◌, ℕ, ◌+◌, ◌<◌, ◌≤◌, Bool, true, false, cond, ◌||◌, List, length, drop, ℤ, pos, sym, refl, ap, ◌∙◌, add-zero, add_assoc, zero-add, arith}
+use Rattle.std.proofs.Common.{if◌then◌else◌, ◌≡◌, ℕ, ◌+◌, ◌<◌, ◌≤◌, Bool, true, false, ◌||◌, List, length, drop, ℤ, pos, Some, sym, refl, ap, ◌∙◌, add-zero, add_assoc, zero-add, arith}
 use mir.Val.{bool_byte}
 use Rattle.std.proofs.lemmas.List.{drop_more, drop_all}
 use Rattle.carrier.specs.declared.interface.Place.{Place}
-use Rattle.carrier.specs.Meaning.{Site, Describes, no_site, site_of}
+use Rattle.carrier.specs.Meaning.{Site, Describes, GivesPlace, no_site, site_of}
 use Rattle.mark.specs.Rows.{places_with, some_with}
 
 module _ (test : Site → ℤ → Bool) (sites : List Site) (codes : List ℤ) (paired : length sites ≡ length codes) (i : ℕ) where
   -- the places from i on, by the first of them
-  pub count_more : (p : Place) → Describes sites codes i p → places_with test (drop i sites) (drop i codes) ≡ cond (test (site_of p) p.code) 1 0 + places_with test (drop (i + 1) sites) (drop (i + 1) codes)
+  pub count_more : (p : Place) → Describes sites codes i p → places_with test (drop i sites) (drop i codes) ≡ (if test (site_of p) p.code then 1 else 0) + places_with test (drop (i + 1) sites) (drop (i + 1) codes)
   count_more p d =
       let here : i < length codes = d.within in
       let there : i < length sites = omega arith in
@@ -43,15 +43,15 @@ or-false : (a : Bool) → (a || false) ≡ a
 or-false true = refl
 or-false false = refl
 
-one_at_most : (b : Bool) → cond b 1 0 ≤ 1
+one_at_most : (b : Bool) → (if b then 1 else 0) ≤ 1
 one_at_most true = omega arith
 one_at_most false = omega arith
 
 -- what a flag adds to a count
-pub flag_added : (n k : ℕ) (b t : Bool) → k ≡ bool_byte b → b ≡ t → n + k ≡ n + cond t 1 0
-flag_added n k b t e f = ap (λ m. n + m) (e ∙ as_cond b ∙ ap (λ u. cond u 1 0) f)
+pub flag_added : (n k : ℕ) (b t : Bool) → k ≡ bool_byte b → b ≡ t → n + k ≡ n + (if t then 1 else 0)
+flag_added n k b t e f = ap (λ m. n + m) (e ∙ as_cond b ∙ ap (λ u. if u then 1 else 0) f)
   where
-    as_cond : (u : Bool) → bool_byte u ≡ cond u 1 0
+    as_cond : (u : Bool) → bool_byte u ≡ (if u then 1 else 0)
     as_cond true = refl
     as_cond false = refl
 
@@ -63,17 +63,21 @@ module _ (test : Site → ℤ → Bool) (sites : List Site) (codes : List ℤ) w
   found_none = record { left = refl }
 
   module _ (paired : length sites ≡ length codes) (i : ℕ) where
-    pub counted_more : (n m : ℕ) (p : Place) → Describes sites codes i p → m ≡ n + cond (test (site_of p) p.code) 1 0 → Counted test sites codes i n → Counted test sites codes (i + 1) m
-    counted_more n m p d e h =
+    pub counted_more : (j n m : ℕ) (p : Place) → GivesPlace sites codes i j (Some p) → m ≡ n + (if test (site_of p) p.code then 1 else 0) → Counted test sites codes i n → Counted test sites codes j m
+    counted_more j n m p step e h =
         record {
-          left = ap (λ t. t + places_with test (drop (i + 1) sites) (drop (i + 1) codes)) e ∙ add_assoc n _ _ ∙ ap (λ t. n + t) (sym (count_more test sites codes paired i p d)) ∙ h.left;
-          few = omega (arith, one_at_most (test (site_of p) p.code), h.few);
+          left = rw step.1 (ap (λ t. t + places_with test (drop (i + 1) sites) (drop (i + 1) codes)) e ∙ add_assoc n _ _ ∙ ap (λ t. n + t) (sym (count_more test sites codes paired i p step.0)) ∙ h.left);
+          few = omega (arith, step.1, one_at_most (test (site_of p) p.code), h.few);
         }
 
-    pub found_more : (t : Bool) (p : Place) (b : Bool) → Describes sites codes i p → b ≡ test (site_of p) p.code → Found test sites codes i t → Found test sites codes (i + 1) (t || b)
-    found_more t p b d e h =
+    -- the same where a flag is added as a number
+    pub counted_flag : (j n k : ℕ) (p : Place) (b : Bool) → GivesPlace sites codes i j (Some p) → b ≡ test (site_of p) p.code → k ≡ bool_byte b → Counted test sites codes i n → Counted test sites codes j (n + k)
+    counted_flag j n k p b step e f h = counted_more j n (n + k) p step (flag_added n k b _ f e) h
+
+    pub found_more : (j : ℕ) (t : Bool) (p : Place) (b : Bool) → GivesPlace sites codes i j (Some p) → b ≡ test (site_of p) p.code → Found test sites codes i t → Found test sites codes j (t || b)
+    found_more j t p b step e h =
         record {
-          left = or_assoc t b _ ∙ ap (λ u. t || (u || some_with test (drop (i + 1) sites) (drop (i + 1) codes))) e ∙ ap (λ u. t || u) (sym (some_more test sites codes paired i p d)) ∙ h.left;
+          left = rw step.1 (or_assoc t b _ ∙ ap (λ u. t || (u || some_with test (drop (i + 1) sites) (drop (i + 1) codes))) e ∙ ap (λ u. t || u) (sym (some_more test sites codes paired i p step.0)) ∙ h.left);
         }
 
     pub counted_all : (n : ℕ) → length codes ≤ i → Counted test sites codes i n → n ≡ places_with test sites codes

@@ -1,5 +1,5 @@
 -- What a mark with the pair p and z makes of one place, by its site and its code. Assumes nothing.
-use Rattle.std.specs.Prelude.{Bool, cond, ◌&&◌, ℤ, pos, ◌+ℤ◌, ◌-ℤ◌, int_le, int_lt}
+use Rattle.std.specs.Prelude.{Bool, if◌then◌else◌, ◌&&◌, ℤ, pos, ◌+ℤ◌, ◌-ℤ◌, int_le, int_lt}
 use Rattle.std.specs.Int.{int_min}
 use Rattle.carrier.specs.Meaning.{Site}
 
@@ -17,7 +17,7 @@ is_active p z s c = int_le s.low p && int_lt p s.high && int_le p c && int_le c 
 
 -- the code, with the top taken for the value below it
 abbrev pub flat_of : ℤ → Site → ℤ → ℤ
-flat_of z s c = cond (same c (top_of z s)) (c -ℤ pos 1) c
+flat_of z s c = if same c (top_of z s) then c -ℤ pos 1 else c
 
 -- an active place at its top
 abbrev pub is_at_top : ℤ → ℤ → Site → ℤ → Bool

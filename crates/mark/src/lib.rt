@@ -3,7 +3,7 @@
 
 ghost use Rattle.std.specs.Prelude.{◌≡◌, pos, ◌≤ℤ◌};
 ghost use Rattle.carrier.specs.Meaning.{site_of, InRange};
-ghost use Rattle.mark.specs.Places.{same, top_of, flat_of, is_active, is_slot, is_at_top, is_mapped};
+ghost use Rattle.mark.specs.Places.{top_of, flat_of, is_active, is_slot, is_at_top, is_mapped};
 
 use carrier::Place;
 
@@ -19,64 +19,63 @@ pub struct Pair {
     pub zero: i32,
 }
 
-impl Pair {
-    fn top(self, at: Place) -> i32
-        ensures { result ≡ top_of self.zero (site_of at) }
+// A place of a carrier, as a mark with the pair finds it.
+#[derive(Clone, Copy)]
+struct Seen {
+    pair: Pair,
+    at: Place,
+    ghost in_range: { InRange at.code },
+}
+
+impl Seen {
+    fn top(self) -> i32
+        ensures { result ≡ top_of self.pair.zero (site_of self.at) }
     {
-        self.zero.min(at.high)
+        self.pair.zero.min(self.at.high)
     }
 
-    fn active(self, at: Place) -> bool
-        ensures { result ≡ is_active self.peak self.zero (site_of at) at.code }
+    fn is_active(self) -> bool
+        ensures { result ≡ is_active self.pair.peak self.pair.zero (site_of self.at) self.at.code }
     {
         // `&` has no branch, so there is one way through this.
-        (at.low <= self.peak)
-            & (self.peak < at.high)
-            & (self.peak <= at.code)
-            & (at.code <= self.top(at))
+        (self.at.low <= self.pair.peak)
+            & (self.pair.peak < self.at.high)
+            & (self.pair.peak <= self.at.code)
+            & (self.at.code <= self.top())
     }
 
-    fn flat(self, at: Place) -> i32
-        requires { InRange at.code }
-        ensures value { result ≡ flat_of self.zero (site_of at) at.code }
+    fn flat(self) -> i32
+        ensures value { result ≡ flat_of self.pair.zero (site_of self.at) self.at.code }
         ensures high { result ≤ℤ pos 65535 }
     {
-        if at.code == self.top(at) {
-            at.code - 1
+        if self.at.code == self.top() {
+            self.at.code - 1
         } else {
-            at.code
+            self.at.code
         }
     }
 
     // Whether the place carries a payload bit.
-    fn slot(self, at: Place) -> bool
-        requires { InRange at.code }
-        ensures { result ≡ is_slot self.peak self.zero (site_of at) at.code }
+    fn is_slot(self) -> bool
+        ensures { result ≡ is_slot self.pair.peak self.pair.zero (site_of self.at) self.at.code }
     {
-        self.active(at) & equal(self.flat(at), self.peak)
+        self.is_active() & (self.flat() == self.pair.peak)
     }
 
     // Whether the map, if there is one, has a bit for the place.
-    fn mapped(self, at: Place) -> bool
-        requires { InRange at.code }
-        ensures { result ≡ is_mapped self.peak self.zero (site_of at) at.code }
+    #[tactic(auto, using(crate::proofs::Bits::next_same))]
+    fn is_mapped(self) -> bool
+        ensures { result ≡ is_mapped self.pair.peak self.pair.zero (site_of self.at) self.at.code }
     {
-        self.active(at) & equal(self.flat(at) + 1, self.top(at))
+        self.is_active() & (self.flat() + 1 == self.top())
     }
 
     // Whether the place is active and at its top.
-    fn at_top(self, at: Place) -> bool
-        ensures { result ≡ is_at_top self.peak self.zero (site_of at) at.code }
+    fn is_at_top(self) -> bool
+        ensures { result ≡ is_at_top self.pair.peak self.pair.zero (site_of self.at) self.at.code }
     {
-        self.active(at) & equal(at.code, self.top(at))
+        self.is_active() & (self.at.code == self.top())
     }
-}
-
-// Two whole numbers are the same.
-fn equal(a: i32, b: i32) -> bool
-    ensures { result ≡ same a b }
-{
-    a == b
 }
 
 #[cfg(test)]

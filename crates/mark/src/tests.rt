@@ -2,7 +2,7 @@ use super::*;
 use carrier::Plain;
 
 fn counted(picture: &[u8], maximum: u8, peak: i32, zero: i32) -> (usize, usize) {
-    let counts = Pair { peak, zero }.counts_on(&Plain::reading(picture, maximum));
+    let counts = Pair { peak, zero }.counts_on(&Plain::over(picture, maximum));
     (counts.slots, counts.map_bits)
 }
 

@@ -1,4 +1,3 @@
 pub mod Running
-pub mod Body
 pub mod Numerals
 pub mod Pictures

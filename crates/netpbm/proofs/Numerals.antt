@@ -1,9 +1,10 @@
 -- `number` reads a gap and then a numeral, and it reads every gap and numeral. Assumes nothing.
-use Rattle.std.proofs.Common.{◌≡◌, ℕ, ◌+◌, ◌≤◌, Bool, true, false, cond, not, ◌&&◌, ◌||◌, eqb, leb, ◌⊎◌, List, [], ◌∷◌, ◌++◌, length, take, drop, Some, None, Option, sym, refl, ap, ◌∙◌, subst, inl, inr, ⊎_elim, append_assoc, append-nil, one-add, arith, length-append, take-append-drop}
+use Rattle.std.proofs.Common.{◌≡◌, ℕ, ◌+◌, Bool, true, false, if◌then◌else◌, not, ◌&&◌, ◌||◌, ◌==◌, nat_le, ◌⊎◌, List, [], ◌∷◌, ◌++◌, length, take, drop, Some, sym, refl, ap, ◌∙◌, subst, inl, inr, ⊎_elim, append_assoc, append-nil, one-add, arith, length-append, take-append-drop}
 use Rattle.std.specs.List.{prefix_len, AllByRecursion}
-use Rattle.std.proofs.lemmas.List.{take_at, drop_at, length-take-le}
-use Rattle.std.proofs.lemmas.List.Sums.{prefix_len-le-length}
-use Rattle.std.proofs.lemmas.Bool.{le-leb, leb-true, eqb-true, eqb-false, ne_eqb, and_parts, or_parts, or_left, false≢true}
+use Rattle.std.proofs.lemmas.List.{take_at, drop_at}
+use Rattle.std.proofs.lemmas.Bool.{eqb-true, eqb-false, ne_eqb, cond_both, or_parts, or_left, false≢true}
+use Rattle.std.proofs.lemmas.List.Folds.{length-prefix_len}
+use Rattle.std.proofs.lemmas.Option.{cond_some}
 use Rattle.std.proofs.lemmas.Bool.Decides.{nat_tests}
 use Rattle.netpbm.specs.Bytes.{white, digit, value}
 use Rattle.netpbm.specs.File.{Blank, space, comment, Gap, one, more, Numeral}
@@ -14,19 +15,18 @@ pub white_no_digit : (b : ℕ) → white b ≡ true → digit b ≡ false
 white_no_digit b w = grind (arith, nat_tests)
 
 -- a digit begins no gap
-digit_no_gap : (b : ℕ) → digit b ≡ true → (white b || eqb b 35) ≡ false
+digit_no_gap : (b : ℕ) → digit b ≡ true → (white b || b == 35) ≡ false
 digit_no_gap b d = grind (arith, nat_tests)
 
 -- SOUND: what is read stands there
 
--- the bytes counted as digits are digits: one byte more, and all
-leading_more : (b : ℕ) (bs : List ℕ) (t : Bool) → digit b ≡ t → AllByRecursion (λ d. digit d ≡ true) (take (prefix_len digit bs) bs) → AllByRecursion (λ d. digit d ≡ true) (take (cond t (1 + prefix_len digit bs) 0) (b ∷ bs))
-leading_more b bs true e h = rw (one-add (prefix_len digit bs)) (e, h)
-leading_more b bs false e h = tt
-
+-- the bytes counted as digits are digits
 leading_digits : (bs : List ℕ) → AllByRecursion (λ d. digit d ≡ true) (take (prefix_len digit bs) bs)
 leading_digits [] = tt
-leading_digits (b ∷ bs) = leading_more b bs (digit b) refl (leading_digits bs)
+leading_digits (b ∷ bs) =
+    cond_both (digit b) (1 + prefix_len digit bs) 0 (λ n. AllByRecursion (λ d. digit d ≡ true) (take n (b ∷ bs)))
+    (λ e. rw (one-add (prefix_len digit bs)) (e, leading_digits bs))
+    (λ e. tt)
 
 -- bs begins with a numeral of v, and the rest follows
 pub record Begins (bs : List ℕ) (v : ℕ) (rest : List ℕ) : Type 0 where
@@ -34,28 +34,23 @@ pub record Begins (bs : List ℕ) (v : ℕ) (rest : List ℕ) : Type 0 where
   pub is : bs ≡ figures ++ rest
   pub numeral : Numeral figures v
 
--- a number that is read, by how many digits were counted
-digits_found : (bs : List ℕ) (v : ℕ) (rest : List ℕ) (n : ℕ) → n ≡ prefix_len digit bs → (t : Bool) → (leb 1 n && leb n 5) ≡ t → cond {A = Option (ℕ × List ℕ)} t (Some (value (take n bs), drop n bs)) None ≡ Some (v, rest) → Begins bs v rest
-digits_found bs v rest n is false t e = absurd (let z : ◌≡◌ {A = ℕ} 0 1 = cc in omega arith)
-digits_found bs v rest n is true t e =
-    let both = and_parts (leb 1 n) (leb n 5) t in
-    let long : length (take n bs) ≡ n = length-take-le n bs (omega (arith, is, prefix_len-le-length digit bs)) in
-    let pair : ◌≡◌ {A = ℕ × List ℕ} (value (take n bs), drop n bs) (v, rest) = cc in
-    record {
-      figures = take n bs;
-      is = sym (take-append-drop n bs) ∙ ap (λ p. take n bs ++ p.1) pair;
-      numeral = record {
-        digits = rw is (leading_digits bs);
-        some = omega (arith, long, leb-true 1 n both.0);
-        few = omega (arith, long, leb-true n 5 both.1);
-        written = ap (λ p. p.0) pair;
-      };
-    }
-
 -- digits that are read stand there
 digits_sound : (bs : List ℕ) (v : ℕ) (rest : List ℕ) → digits bs ≡ Some (v, rest) → Begins bs v rest
 unfolding digits
-digits_sound bs v rest e = digits_found bs v rest (prefix_len digit bs) refl (leb 1 (prefix_len digit bs) && leb (prefix_len digit bs) 5) refl e
+digits_sound bs v rest e =
+    let n : ℕ = prefix_len digit bs in
+    let long : length (take n bs) ≡ n = length-prefix_len digit bs in
+    let found = cond_some (nat_le 1 n && nat_le n 5) (value (take n bs), drop n bs) (v, rest) e in
+    record {
+      figures = take n bs;
+      is = sym (take-append-drop n bs) ∙ ap (λ p. take n bs ++ p.1) found.1;
+      numeral = record {
+        digits = leading_digits bs;
+        some = grind (arith, nat_tests, found.0);
+        few = grind (arith, nat_tests, found.0);
+        written = ap (λ p. p.0) found.1;
+      };
+    }
 
 -- any number of white bytes and comments
 abbrev Blanks : List ℕ → Type 0
@@ -76,19 +71,17 @@ abbrev Passes : Bool → List ℕ → Type 0
 Passes inside bs = (after_gap inside bs ≡ []) ⊎ Skips inside bs (after_gap inside bs)
 
 -- a byte inside a comment
-in_comment : (b : ℕ) (bs : List ℕ) (t : Bool) → eqb b 10 ≡ t → Passes false bs → Passes true bs → (after_gap (not t) bs ≡ []) ⊎ Skips true (b ∷ bs) (after_gap (not t) bs)
+in_comment : (b : ℕ) (bs : List ℕ) (t : Bool) → (b == 10) ≡ t → Passes false bs → Passes true bs → (after_gap (not t) bs ≡ []) ⊎ Skips true (b ∷ bs) (after_gap (not t) bs)
 in_comment b bs true e (inl x) y = inl x
 in_comment b bs true e (inr x) y = inr ([], x.0, tt, (ap (λ c. c ∷ bs) (eqb-true b 10 e) ∙ ap (λ l. 10 ∷ l) x.1), x.2)
 in_comment b bs false e x (inl y) = inl y
 in_comment b bs false e x (inr y) = inr (b ∷ y.0, y.1, (eqb-false b 10 e, y.2), ap (λ l. b ∷ l) y.3, y.4)
 
 -- a byte outside a comment
-outside : (b : ℕ) (bs : List ℕ) (w h : Bool) → white b ≡ w → eqb b 35 ≡ h → Passes false bs → Passes true bs
-    → let rest = cond w (after_gap false bs) (cond h (after_gap true bs) (b ∷ bs)) in (rest ≡ []) ⊎ Skips false (b ∷ bs) rest
-outside b bs true true e f (inl x) y = inl x
-outside b bs true true e f (inr x) y = inr (b ∷ x.0, ap (λ l. b ∷ l) x.1, inr (blanks_more (space b e) x.2))
-outside b bs true false e f (inl x) y = inl x
-outside b bs true false e f (inr x) y = inr (b ∷ x.0, ap (λ l. b ∷ l) x.1, inr (blanks_more (space b e) x.2))
+outside : (b : ℕ) (bs : List ℕ) (w h : Bool) → white b ≡ w → (b == 35) ≡ h → Passes false bs → Passes true bs
+    → let rest = if w then after_gap false bs else if h then after_gap true bs else b ∷ bs in (rest ≡ []) ⊎ Skips false (b ∷ bs) rest
+outside b bs true h e f (inl x) y = inl x
+outside b bs true h e f (inr x) y = inr (b ∷ x.0, ap (λ l. b ∷ l) x.1, inr (blanks_more (space b e) x.2))
 outside b bs false true e f x (inl y) = inl y
 outside b bs false true e f x (inr y) = inr (
   (35 ∷ (y.0 ++ 10 ∷ [])) ++ y.1,
@@ -101,8 +94,8 @@ outside b bs false false e f x y = inr ([], refl, inl refl)
 skips : (inside : Bool) (bs : List ℕ) → Passes inside bs
 unfolding after_gap
 skips inside [] = inl refl
-skips true (b ∷ bs) = in_comment b bs (eqb b 10) refl (skips false bs) (skips true bs)
-skips false (b ∷ bs) = outside b bs (white b) (eqb b 35) refl refl (skips false bs) (skips true bs)
+skips true (b ∷ bs) = in_comment b bs (b == 10) refl (skips false bs) (skips true bs)
+skips false (b ∷ bs) = outside b bs (white b) (b == 35) refl refl (skips false bs) (skips true bs)
 
 -- bs begins with a gap and a numeral of v, and the rest follows
 pub record Opens (bs : List ℕ) (v : ℕ) (rest : List ℕ) : Type 0 where
@@ -134,15 +127,10 @@ opened bs v rest t b (inr s) =
 -- a number that is read stands there, after a gap
 pub number_sound : (bs : List ℕ) (v : ℕ) (rest : List ℕ) → number bs ≡ Some (v, rest) → Opens bs v rest
 unfolding number
-number_sound bs v rest e = go (begins_gap bs) refl e
-  where
-    go : (t : Bool) → begins_gap bs ≡ t → cond t (digits (after_gap false bs)) None ≡ Some (v, rest) → Opens bs v rest
-    go false t q = absurd (let z : ◌≡◌ {A = ℕ} 0 1 = cc in omega arith)
-    go true t q = opened bs v rest t (digits_sound (after_gap false bs) v rest q) (skips false bs)
-
--- the bytes after a number are among those before it
-pub number_shorter : (bs : List ℕ) (v : ℕ) (rest : List ℕ) → number bs ≡ Some (v, rest) → length rest ≤ length bs
-number_shorter bs v rest e = let o = number_sound bs v rest e in omega (arith, simp length-append at (ap length o.is))
+number_sound bs v rest e =
+    let front : begins_gap bs ≡ true = grind (arith, nat_tests) in
+    let after : digits (after_gap false bs) ≡ Some (v, rest) = grind (arith, nat_tests) in
+    opened bs v rest front (digits_sound (after_gap false bs) v rest after) (skips false bs)
 
 -- COMPLETE: what stands there is read
 
@@ -161,9 +149,9 @@ leading_all (d ∷ ds) rest all stop = rw (all.0, leading_all ds rest all.1 stop
 digits_complete : (ds rest : List ℕ) (v : ℕ) → Numeral ds v → Stops rest → digits (ds ++ rest) ≡ Some (v, rest)
 unfolding digits
 digits_complete ds rest v n stop =
-    let low : leb 1 (length ds) ≡ true = le-leb 1 (length ds) n.some in
-    let high : leb (length ds) 5 ≡ true = le-leb (length ds) 5 n.few in
-    rw (leading_all ds rest n.digits stop, low, high, take_at ds rest (length ds) refl, drop_at ds rest (length ds) refl) (ap (λ m. Some (m, rest)) n.written)
+    let counted : prefix_len digit (ds ++ rest) ≡ length ds = leading_all ds rest n.digits stop in
+    let right : (nat_le 1 (length ds) && nat_le (length ds) 5) ≡ true = grind (arith, nat_tests) in
+    rw (counted, right, take_at ds rest (length ds) refl, drop_at ds rest (length ds) refl) (ap (λ m. Some (m, rest)) n.written)
 
 -- a comment is passed over up to its end
 comment_passed : (text bs : List ℕ) → AllByRecursion (λ b. b ≡ 10 → ⊥) text → after_gap true ((text ++ 10 ∷ []) ++ bs) ≡ after_gap false bs
@@ -185,11 +173,11 @@ gap_passed bs (more {b} {g} x y) = ap (after_gap false) (append_assoc b g bs) �
 nothing_passed : (bs : List ℕ) → begins_gap bs ≡ false → after_gap false bs ≡ bs
 unfolding after_gap
 nothing_passed [] e = refl
-nothing_passed (b ∷ bs) e = let both = or_parts (white b) (eqb b 35) e in rw (both.0, both.1)
+nothing_passed (b ∷ bs) e = let both = or_parts (white b) (b == 35) e in rw (both.0, both.1)
 
 -- a blank begins with a white byte or a comment, and so with no digit
 blank_begins : {b : List ℕ} (bs : List ℕ) → Blank b → (begins_gap (b ++ bs) ≡ true) × Stops (b ++ bs)
-blank_begins bs (space b w) = (or_left (white b) (eqb b 35) w, white_no_digit b w)
+blank_begins bs (space b w) = (or_left (white b) (b == 35) w, white_no_digit b w)
 blank_begins bs (comment text all) = (refl, refl)
 
 -- so does a gap

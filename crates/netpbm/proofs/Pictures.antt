@@ -1,14 +1,14 @@
 -- `reading` accepts a file with a header exactly if the file is a picture with that header. Assumes nothing.
-use Rattle.std.proofs.Common.{◌≡◌, ℕ, suc, ◌+◌, ◌-◌, ◌*◌, ◌≤◌, Bool, true, false, cond, ◌&&◌, eqb, leb, List, [], ◌∷◌, ◌++◌, length, drop, Some, None, Option, sym, refl, ap, ◌∙◌, subst, one-add, arith, length-append}
-use Rattle.std.specs.List.{prefix_len, AllByRecursion}
-use Rattle.std.proofs.lemmas.Bool.{le-leb, leb-true, eqb-true, eq-eqb, and_parts, and_from}
-use Rattle.refusal.specs.Answers.{Answer, accepted, given, holds, none_found}
+use Rattle.std.proofs.Common.{◌≡◌, ℕ, ◌+◌, ◌-◌, ◌*◌, ◌≤◌, Bool, true, false, if◌then◌else◌, ◌&&◌, nat_lt, ◌==◌, nat_le, List, [], ◌∷◌, ◌++◌, length, take, drop, Some, None, Option, sym, refl, ap, ◌∙◌, subst, one-add, arith, length-append, take-append-drop}
+use Rattle.std.specs.List.{position_or_len, AllByRecursion}
+use Rattle.std.proofs.lemmas.Bool.Decides.{nat_tests}
+use Rattle.std.proofs.lemmas.Bool.{le-ltb}
+use Rattle.refusal.specs.Answers.{Answer, accepted, given}
 use Rattle.netpbm.specs.declared.Header.{Header}
 use Rattle.netpbm.specs.Accepting.{AcceptedPictures}
 use Rattle.netpbm.specs.Bytes.{white}
 use Rattle.netpbm.specs.File.{Magic, grey, colour, IsPicture}
 use Rattle.netpbm.specs.Reading.{channels, number, first_above, ends_with, side, asked, reading}
-use Rattle.netpbm.proofs.Body.{low}
 use Rattle.netpbm.proofs.Numerals.{number_sound, number_complete, gap_begins, white_no_digit}
 
 -- the header that is accepted
@@ -26,73 +26,41 @@ pub record Numbered (file : List ℕ) (c w h m : ℕ) (r₁ r₂ r₃ : List ℕ
 pub reading_asks : (file : List ℕ) (c w h m : ℕ) (r₁ r₂ r₃ : List ℕ) → Numbered file c w h m r₁ r₂ r₃ → reading file ≡ asked (length file) c w h m r₃
 reading_asks file c w h m r₁ r₂ r₃ n = rw (n.has_channels, n.has_width, n.has_height, n.has_maximum)
 
--- a question that did not refuse, of each of the three kinds
+-- a question that yielded a value, and did not refuse
 given_passed : {A B : Type 0} (n : ℕ) (o : Option A) (next : A → Answer B) (b : B) → given n o next ≡ accepted b → (x : A) × (o ≡ Some x) × (next x ≡ accepted b)
-given_passed n None next b e = absurd (let z : ◌≡◌ {A = ℕ} 0 1 = cc in omega arith)
+given_passed n None next b e = cc
 given_passed n (Some x) next b e = (x, refl, e)
 
-holds_passed : {B : Type 0} (n : ℕ) (t : Bool) (next : Answer B) (b : B) → holds n t next ≡ accepted b → (t ≡ true) × (next ≡ accepted b)
-holds_passed n true next b e = (refl, e)
-holds_passed n false next b e = absurd (let z : ◌≡◌ {A = ℕ} 0 1 = cc in omega arith)
-
-none_found_passed : {B : Type 0} (n : ℕ) (o : Option ℕ) (next : Answer B) (b : B) → none_found n o next ≡ accepted b → (o ≡ None) × (next ≡ accepted b)
-none_found_passed n None next b e = (refl, e)
-none_found_passed n (Some i) next b e = absurd (let z : ◌≡◌ {A = ℕ} 0 1 = cc in omega arith)
-
--- what was accepted is one thing
-accepted_same : {B : Type 0} (x y : B) → accepted x ≡ accepted y → x ≡ y
-accepted_same x y e = cc
-
--- the first two bytes, and the channels
-pub record Begun (file : List ℕ) (c : ℕ) : Type 0 where
-  pub magic : List ℕ
-  pub is : file ≡ magic ++ drop 2 file
-  pub is_magic : Magic magic c
-
--- by the first two bytes
-begun : (a b : ℕ) (rest : List ℕ) (c : ℕ) (g k : Bool) → (eqb a 80 && eqb b 53) ≡ g → (eqb a 80 && eqb b 54) ≡ k
-    → cond g (Some 1) (cond k (Some 3) None) ≡ Some c → Begun (a ∷ b ∷ rest) c
-begun a b rest c true k p q e = let t = and_parts (eqb a 80) (eqb b 53) p in let one : c ≡ 1 = cc in
-    record { magic = 80 ∷ 53 ∷ []; is = rw (eqb-true a 80 t.0, eqb-true b 53 t.1); is_magic = rw one grey }
-begun a b rest c false true p q e = let t = and_parts (eqb a 80) (eqb b 54) q in let three : c ≡ 3 = cc in
-    record { magic = 80 ∷ 54 ∷ []; is = rw (eqb-true a 80 t.0, eqb-true b 54 t.1); is_magic = rw three colour }
-begun a b rest c false false p q e = absurd (let z : ◌≡◌ {A = ℕ} 0 1 = cc in omega arith)
-
--- channels that are read come from such bytes, and such bytes give them
-channels_sound : (file : List ℕ) (c : ℕ) → channels file ≡ Some c → Begun file c
-channels_sound [] c e = absurd (let z : ◌≡◌ {A = ℕ} 0 1 = cc in omega arith)
-channels_sound (a ∷ []) c e = absurd (let z : ◌≡◌ {A = ℕ} 0 1 = cc in omega arith)
-channels_sound (a ∷ b ∷ rest) c e = begun a b rest c (eqb a 80 && eqb b 53) (eqb a 80 && eqb b 54) refl refl e
+-- channels that are read come from such first two bytes, and such bytes give them
+channels_sound : (file : List ℕ) (c : ℕ) → channels file ≡ Some c → Magic (take 2 file) c
+channels_sound [] c e = cc
+channels_sound (a ∷ []) c e = cc
+channels_sound (a ∷ b ∷ rest) c e = go (a == 80 && b == 53) (a == 80 && b == 54) refl refl e
+  where
+    go : (g k : Bool) → (a == 80 && b == 53) ≡ g → (a == 80 && b == 54) ≡ k → (if g then Some 1 else if k then Some 3 else None) ≡ Some c → Magic (a ∷ b ∷ []) c
+    go true k p q e = let is : (a ≡ 80) × (b ≡ 53) × (c ≡ 1) = (grind (arith, nat_tests), grind (arith, nat_tests), cc) in rw (is.0, is.1, is.2) grey
+    go false true p q e = let is : (a ≡ 80) × (b ≡ 54) × (c ≡ 3) = (grind (arith, nat_tests), grind (arith, nat_tests), cc) in rw (is.0, is.1, is.2) colour
+    go false false p q e = cc
 
 channels_complete : {magic : List ℕ} {c : ℕ} (rest : List ℕ) → Magic magic c → (channels (magic ++ rest) ≡ Some c) × (drop 2 (magic ++ rest) ≡ rest)
 channels_complete rest grey = (refl, refl)
 channels_complete rest colour = (refl, refl)
 
--- all samples are counted as low exactly if none is above the maximum
-all_low : (m : ℕ) (xs : List ℕ) → prefix_len (low m) xs ≡ length xs → AllByRecursion (λ s. s ≤ m) xs
+-- no sample is passed over as low exactly if none is above the maximum
+all_low : (m : ℕ) (xs : List ℕ) → length xs ≤ position_or_len (λ s. nat_lt m s) xs → AllByRecursion (λ s. s ≤ m) xs
 all_low m [] e = tt
-all_low m (x ∷ xs) e = go (leb x m) refl e (all_low m xs)
-  where
-    go : (t : Bool) → leb x m ≡ t → cond t (1 + prefix_len (low m) xs) 0 ≡ suc (length xs) → (prefix_len (low m) xs ≡ length xs → AllByRecursion (λ s. s ≤ m) xs) → AllByRecursion (λ s. s ≤ m) (x ∷ xs)
-    go true t q more = (leb-true x m t, more (omega arith))
-    go false t q more = absurd (omega arith)
+all_low m (x ∷ xs) e = (grind (arith, nat_tests), all_low m xs (grind (arith, nat_tests)))
 
-low_all : (m : ℕ) (xs : List ℕ) → AllByRecursion (λ s. s ≤ m) xs → prefix_len (low m) xs ≡ length xs
+low_all : (m : ℕ) (xs : List ℕ) → AllByRecursion (λ s. s ≤ m) xs → position_or_len (λ s. nat_lt m s) xs ≡ length xs
 low_all m [] h = refl
-low_all m (x ∷ xs) h = rw (le-leb x m h.0, low_all m xs h.1, one-add (length xs))
+low_all m (x ∷ xs) h = rw (le-ltb m x h.0, low_all m xs h.1, one-add (length xs))
 
 -- the same of the first sample above it
 above_sound : (m : ℕ) (xs : List ℕ) → first_above m xs ≡ None → AllByRecursion (λ s. s ≤ m) xs
-unfolding first_above
-above_sound m xs e = all_low m xs (go (eqb (prefix_len (low m) xs) (length xs)) refl e)
-  where
-    go : (t : Bool) → eqb (prefix_len (low m) xs) (length xs) ≡ t → cond t None (Some (prefix_len (low m) xs)) ≡ None → prefix_len (low m) xs ≡ length xs
-    go true t q = eqb-true (prefix_len (low m) xs) (length xs) t
-    go false t q = absurd (let z : ◌≡◌ {A = ℕ} 0 1 = cc in omega arith)
+above_sound m xs e = all_low m xs (grind (arith, nat_tests))
 
 above_complete : (m : ℕ) (xs : List ℕ) → AllByRecursion (λ s. s ≤ m) xs → first_above m xs ≡ None
-unfolding first_above
-above_complete m xs h = rw (low_all m xs h, eq-eqb (length xs) (length xs) refl)
+above_complete m xs h = let n = low_all m xs h in grind (arith, nat_tests)
 
 -- a white byte, and n samples
 pub record Closes (n : ℕ) (bs : List ℕ) : Type 0 where
@@ -104,30 +72,24 @@ pub record Closes (n : ℕ) (bs : List ℕ) : Type 0 where
 
 -- where `ends_with` holds, they stand there
 pub closes : (n : ℕ) (bs : List ℕ) → ends_with n bs ≡ true → Closes n bs
-closes n [] e = absurd (let z : ◌≡◌ {A = ℕ} 0 1 = cc in omega arith)
-closes n (b ∷ bs) e = let both = and_parts (white b) (eqb (length bs) n) e in
-    record { blank = b; samples = bs; is = refl; is_white = both.0; exact = eqb-true (length bs) n both.1 }
+closes n [] e = cc
+closes n (b ∷ bs) e = record { blank = b; samples = bs; is = refl; is_white = grind (arith, nat_tests); exact = grind (arith, nat_tests) }
 
 -- SOUND: a file that is accepted is a picture
 
 -- what the questions found makes a picture
 pictured : (file : List ℕ) (c w h m : ℕ) (r₁ r₂ r₃ : List ℕ) → Numbered file c w h m r₁ r₂ r₃
-    → (side w && side h) ≡ true → (leb 1 m && leb m 255) ≡ true → ends_with (w * h * c) r₃ ≡ true → first_above m (drop 1 r₃) ≡ None
+    → (side w && side h) ≡ true → (nat_le 1 m && nat_le m 255) ≡ true → ends_with (w * h * c) r₃ ≡ true → first_above m (drop 1 r₃) ≡ None
     → IsPicture file (header (length file) c w h m)
 pictured file c w h m r₁ r₂ r₃ n sides top ended none =
-    let first = channels_sound file c n.has_channels in
     let a = number_sound (drop 2 file) w r₁ n.has_width in
     let b = number_sound r₁ h r₂ n.has_height in
     let d = number_sound r₂ m r₃ n.has_maximum in
     let z = closes (w * h * c) r₃ ended in
-    let wh = and_parts (side w) (side h) sides in
-    let ws = and_parts (leb 1 w) (leb w 4096) wh.0 in
-    let hs = and_parts (leb 1 h) (leb h 4096) wh.1 in
-    let ms = and_parts (leb 1 m) (leb m 255) top in
-    let whole : file ≡ first.magic ++ (a.gap ++ (a.figures ++ (b.gap ++ (b.figures ++ (d.gap ++ (d.figures ++ (z.blank ∷ z.samples))))))) =
-    first.is ∙ ap (λ l. first.magic ++ l) (a.is ∙ ap (λ l. a.gap ++ (a.figures ++ l)) (b.is ∙ ap (λ l. b.gap ++ (b.figures ++ l)) (d.is ∙ ap (λ l. d.gap ++ (d.figures ++ l)) z.is))) in
+    let whole : file ≡ take 2 file ++ (a.gap ++ (a.figures ++ (b.gap ++ (b.figures ++ (d.gap ++ (d.figures ++ (z.blank ∷ z.samples))))))) =
+    sym (take-append-drop 2 file) ∙ ap (λ l. take 2 file ++ l) (a.is ∙ ap (λ l. a.gap ++ (a.figures ++ l)) (b.is ∙ ap (λ l. b.gap ++ (b.figures ++ l)) (d.is ∙ ap (λ l. d.gap ++ (d.figures ++ l)) z.is))) in
     record {
-      magic = first.magic;
+      magic = take 2 file;
       gap₁ = a.gap;
       width = a.figures;
       gap₂ = b.gap;
@@ -137,7 +99,7 @@ pictured file c w h m r₁ r₂ r₃ n sides top ended none =
       samples = z.samples;
       blank = z.blank;
       whole = whole;
-      is_magic = first.is_magic;
+      is_magic = channels_sound file c n.has_channels;
       is_gap₁ = a.is_gap;
       is_width = a.numeral;
       is_gap₂ = b.is_gap;
@@ -145,12 +107,12 @@ pictured file c w h m r₁ r₂ r₃ n sides top ended none =
       is_gap₃ = d.is_gap;
       is_maximum = d.numeral;
       is_white = z.is_white;
-      width_low = leb-true 1 w ws.0;
-      width_high = leb-true w 4096 ws.1;
-      height_low = leb-true 1 h hs.0;
-      height_high = leb-true h 4096 hs.1;
-      maximum_low = leb-true 1 m ms.0;
-      maximum_high = leb-true m 255 ms.1;
+      width_low = grind (arith, nat_tests);
+      width_high = grind (arith, nat_tests);
+      height_low = grind (arith, nat_tests);
+      height_high = grind (arith, nat_tests);
+      maximum_low = grind (arith, nat_tests);
+      maximum_high = grind (arith, nat_tests);
       exact = z.exact;
       none_above = above_sound m z.samples (ap (λ l. first_above m (drop 1 l)) (sym z.is) ∙ none);
       header_length = omega (arith, z.exact, simp length-append at (ap length whole));
@@ -159,14 +121,12 @@ pictured file c w h m r₁ r₂ r₃ n sides top ended none =
 -- a file whose questions after the numbers all hold
 asked_sound : (file : List ℕ) (c w h m : ℕ) (r₁ r₂ r₃ : List ℕ) → Numbered file c w h m r₁ r₂ r₃ → (hd : Header) → asked (length file) c w h m r₃ ≡ accepted hd → IsPicture file hd
 asked_sound file c w h m r₁ r₂ r₃ n hd e =
-    let good : Answer Header = accepted (header (length file) c w h m) in
-    let low : Answer Header = none_found 19 (first_above m (drop 1 r₃)) good in
-    let long : Answer Header = holds 18 (ends_with (w * h * c) r₃) low in
-    let sides = holds_passed 16 (side w && side h) (holds 17 (leb 1 m && leb m 255) long) hd e in
-    let top = holds_passed 17 (leb 1 m && leb m 255) long hd sides.1 in
-    let ended = holds_passed 18 (ends_with (w * h * c) r₃) low hd top.1 in
-    let none = none_found_passed 19 (first_above m (drop 1 r₃)) good hd ended.1 in
-    subst (IsPicture file) (accepted_same (header (length file) c w h m) hd none.1) (pictured file c w h m r₁ r₂ r₃ n sides.0 top.0 ended.0 none.0)
+    let sides : (side w && side h) ≡ true = grind (arith, nat_tests) in
+    let top : (nat_le 1 m && nat_le m 255) ≡ true = grind (arith, nat_tests) in
+    let ended : ends_with (w * h * c) r₃ ≡ true = grind (arith, nat_tests) in
+    let none : first_above m (drop 1 r₃) ≡ None = grind (arith, nat_tests) in
+    let same : header (length file) c w h m ≡ hd = grind (arith, nat_tests) in
+    subst (IsPicture file) same (pictured file c w h m r₁ r₂ r₃ n sides top ended none)
 
 -- a file that is accepted
 pub reading_sound : (file : List ℕ) (hd : Header) → reading file ≡ accepted hd → IsPicture file hd
@@ -187,15 +147,8 @@ passed : (hd : Header) (all blank : ℕ) (samples : List ℕ)
     → length samples ≡ hd.width * hd.height * hd.channels → AllByRecursion (λ s. s ≤ hd.maximum) samples → hd.length + length samples ≡ all
     → asked all hd.channels hd.width hd.height hd.maximum (blank ∷ samples) ≡ accepted hd
 passed hd all blank samples wb w h m exact low long =
-    let sides : (side hd.width && side hd.height) ≡ true =
-    and_from (side hd.width) (side hd.height) (and_from (leb 1 hd.width) (leb hd.width 4096) (le-leb 1 hd.width w.0) (le-leb hd.width 4096 w.1))
-    (and_from (leb 1 hd.height) (leb hd.height 4096) (le-leb 1 hd.height h.0) (le-leb hd.height 4096 h.1)) in
-    let top : (leb 1 hd.maximum && leb hd.maximum 255) ≡ true = and_from (leb 1 hd.maximum) (leb hd.maximum 255) (le-leb 1 hd.maximum m.0) (le-leb hd.maximum 255 m.1) in
-    let count : ℕ = hd.width * hd.height * hd.channels in
-    let ended : ends_with count (blank ∷ samples) ≡ true = and_from (white blank) (eqb (length samples) count) wb (eq-eqb (length samples) count exact) in
-    let before : all - count ≡ hd.length = omega (arith, exact, long) in
     let none : first_above hd.maximum samples ≡ None = above_complete hd.maximum samples low in
-    rw (sides, top, ended, none) (ap (λ l. accepted (record { channels = hd.channels; width = hd.width; height = hd.height; maximum = hd.maximum; length = l })) before)
+    grind (arith, nat_tests)
 
 -- a picture
 pub reading_complete : (file : List ℕ) (hd : Header) → IsPicture file hd → reading file ≡ accepted hd

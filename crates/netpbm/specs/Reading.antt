@@ -1,7 +1,7 @@
 -- What is answered to a file: the questions one after another, until one fails.
 -- Assumes nothing.
-use Rattle.std.specs.Prelude.{ℕ, ◌-◌, ◌*◌, Bool, true, false, cond, not, ◌&&◌, ◌||◌, List, [], ◌∷◌, length, take, drop, Some, None, Option, ◌==◌, nat_le}
-use Rattle.std.specs.List.{prefix_len}
+use Rattle.std.specs.Prelude.{ℕ, ◌-◌, ◌*◌, Bool, true, false, if◌then◌else◌, not, ◌&&◌, ◌||◌, List, [], ◌∷◌, length, take, drop, Some, None, Option, ◌==◌, nat_lt, nat_le}
+use Rattle.std.specs.List.{prefix_len, position}
 use Rattle.refusal.specs.Answers.{Answer, accepted, given, holds, none_found}
 use Rattle.netpbm.specs.declared.Header.{Header}
 use Rattle.netpbm.specs.Bytes.{white, digit, value}
@@ -10,13 +10,13 @@ use Rattle.netpbm.specs.Bytes.{white, digit, value}
 abbrev pub channels : List ℕ → Option ℕ
 channels [] = None
 channels (a ∷ []) = None
-channels (a ∷ b ∷ rest) = cond (a == 80 && b == 53) (Some 1) (cond (a == 80 && b == 54) (Some 3) None)
+channels (a ∷ b ∷ rest) = if a == 80 && b == 53 then Some 1 else if a == 80 && b == 54 then Some 3 else None
 
 -- the bytes after the white bytes and comments at the front; the flag says that they begin inside a comment
 unfoldable pub after_gap : Bool → List ℕ → List ℕ
 after_gap inside [] = []
 after_gap true (b ∷ bs) = after_gap (not (b == 10)) bs
-after_gap false (b ∷ bs) = let on = after_gap false bs in let noted = after_gap true bs in cond (white b) on (cond (b == 35) noted (b ∷ bs))
+after_gap false (b ∷ bs) = if white b then after_gap false bs else if b == 35 then after_gap true bs else b ∷ bs
 
 -- a white byte or a comment stands at the front
 abbrev pub begins_gap : List ℕ → Bool
@@ -25,15 +25,15 @@ begins_gap (b ∷ bs) = white b || b == 35
 
 -- all the digits at the front, if they are one to five: their number and the bytes after them
 unfoldable pub digits : List ℕ → Option (ℕ × List ℕ)
-digits bs = let n = prefix_len digit bs in cond (nat_le 1 n && nat_le n 5) (Some (value (take n bs), drop n bs)) None
+digits bs = let n = prefix_len digit bs in if nat_le 1 n && nat_le n 5 then Some (value (take n bs), drop n bs) else None
 
 -- a gap and then a number: the number and the bytes after it
 unfoldable pub number : List ℕ → Option (ℕ × List ℕ)
-number bs = cond (begins_gap bs) (digits (after_gap false bs)) None
+number bs = if begins_gap bs then digits (after_gap false bs) else None
 
 -- the number of the first sample above the maximum
-unfoldable pub first_above : ℕ → List ℕ → Option ℕ
-first_above maximum samples = let n = prefix_len (λ s. nat_le s maximum) samples in cond (n == length samples) None (Some n)
+abbrev pub first_above : ℕ → List ℕ → Option ℕ
+first_above maximum samples = position (λ s. nat_lt maximum s) samples
 
 -- the bytes are a white byte and n samples, and no more
 abbrev pub ends_with : ℕ → List ℕ → Bool

@@ -1,12 +1,13 @@
 // Picture files: the binary grey and colour formats of Netpbm, with one byte to a sample.
 #![tactic(auto)]
 
-ghost use Rattle.std.specs.Prelude.{◌≡◌, ℕ, ◌*◌, ◌≤◌, ◌&&◌, length, nat_le};
+ghost use Rattle.std.specs.Prelude.{◌≡◌, ℕ, ◌*◌, ◌<◌, ◌≤◌, ◌&&◌, IfSome, OnSome, if◌then◌else◌, drop, length, nat_le};
+ghost use Rattle.std.specs.Option.{option_copied};
 ghost use Rattle.refusal.specs.Answers.{answer};
 ghost use Rattle.netpbm.specs.Bytes.{white};
-ghost use Rattle.netpbm.specs.Calls.{Begins, HoldsSamples};
+ghost use Rattle.netpbm.specs.Calls.{begun, taken};
 ghost use Rattle.netpbm.specs.Accepting.{AcceptedPictures};
-ghost use Rattle.netpbm.specs.Reading.{reading, asked, first_above};
+ghost use Rattle.netpbm.specs.Reading.{ends_with, first_above, reading};
 
 mod machine;
 #[cfg(test)]
@@ -15,9 +16,9 @@ mod tests;
 use machine::{CARRIAGE_RETURN, SPACE, TAB, number};
 use refusal::Refusal;
 
-const LARGEST_SIDE: u32 = 4096;
+const LARGEST_SIDE: u16 = 4096;
 
-const LARGEST_MAXIMUM: u32 = 255;
+const LARGEST_MAXIMUM: u16 = 255;
 
 #[derive(Clone, Copy, PartialEq, Eq, Debug)]
 pub struct Header {
@@ -35,25 +36,33 @@ pub fn read(file: &[u8]) -> Result<Header, Refusal>
     ensures accepts { AcceptedPictures file.now }
 {
     pictures_are_accepted(file);
-    let Some(begun) = begin(file) else {
-        return Err(Refusal::NotAPicture);
-    };
-    let Some(width) = number(begun.rest) else {
+    let (channels, rest) = begin(file).ok_or(Refusal::NotAPicture)?;
+    // Each of the three numbers stands with the refusal for its lack in sight.
+    let Some((width, rest)) = number(rest) else {
         return Err(Refusal::NotAHeader);
     };
-    let Some(height) = number(width.rest) else {
+    let Some((height, rest)) = number(rest) else {
         return Err(Refusal::NotAHeader);
     };
-    let Some(maximum) = number(height.rest) else {
+    let Some((maximum, rest)) = number(rest) else {
         return Err(Refusal::NotAHeader);
     };
-    let numbers = Numbers {
-        channels: begun.channels,
-        width: width.value,
-        height: height.value,
-        maximum: maximum.value,
-    };
-    numbers.header(maximum.rest, file.len())
+    let width = within(width, LARGEST_SIDE).ok_or(Refusal::SizeOutOfBounds)?;
+    let height = within(height, LARGEST_SIDE).ok_or(Refusal::SizeOutOfBounds)?;
+    let maximum = within(maximum, LARGEST_MAXIMUM).ok_or(Refusal::MaximumOutOfBounds)?;
+    let count = sample_count(width, height, channels);
+    let samples = samples(rest, count).ok_or(Refusal::WrongLength)?;
+    // What is found here is what the file is refused for, so no `ok_or` fits.
+    if let Some(sample) = first_above(samples, maximum) {
+        return Err(Refusal::SampleAboveMaximum { sample });
+    }
+    Ok(Header {
+        channels,
+        width,
+        height,
+        maximum,
+        length: file.len() - count,
+    })
 }
 
 // A fact about files, and no code.
@@ -62,66 +71,24 @@ fn pictures_are_accepted(file: &[u8])
 {}
 
 // The channels that the first two bytes of a file stand for, and the bytes after them.
-#[derive(Clone, Copy)]
-struct Begun<'a> {
-    channels: u8,
-    rest: &'a [u8],
-}
-
-fn begin(file: &[u8]) -> Option<Begun<'_>>
-    ensures { Begins result file.now }
+fn begin(file: &[u8]) -> Option<(u8, &[u8])>
+    ensures value { taken result ≡ begun file.now }
+    ensures rest { IfSome result (λ b. length b.1.now ≤ length file.now) }
 {
     match file {
-        [b'P', b'5', rest @ ..] => Some(Begun { channels: 1, rest }),
-        [b'P', b'6', rest @ ..] => Some(Begun { channels: 3, rest }),
+        [b'P', b'5', rest @ ..] => Some((1, rest)),
+        [b'P', b'6', rest @ ..] => Some((3, rest)),
         _ => None,
     }
 }
 
-// The numbers of a file, which may be out of their bounds.
-#[derive(Clone, Copy)]
-struct Numbers {
-    channels: u8,
-    width: u32,
-    height: u32,
-    maximum: u32,
-}
-
-impl Numbers {
-    // The header of a file of `all` bytes, of which `rest` stand after the numbers.
-    fn header(self, rest: &[u8], all: usize) -> Result<Header, Refusal>
-        requires { length rest.now ≤ all }
-        ensures { answer result ≡ asked all self.channels self.width self.height self.maximum rest.now }
-    {
-        if !is_within(self.width, LARGEST_SIDE) || !is_within(self.height, LARGEST_SIDE) {
-            return Err(Refusal::SizeOutOfBounds);
-        }
-        if !is_within(self.maximum, LARGEST_MAXIMUM) {
-            return Err(Refusal::MaximumOutOfBounds);
-        }
-        let (width, height, maximum) = (self.width as u16, self.height as u16, self.maximum as u16);
-        let count = sample_count(width, height, self.channels);
-        let Some(samples) = samples(rest, count) else {
-            return Err(Refusal::WrongLength);
-        };
-        if let Some(sample) = first_above(samples, maximum) {
-            return Err(Refusal::SampleAboveMaximum { sample });
-        }
-        Ok(Header {
-            channels: self.channels,
-            width,
-            height,
-            maximum,
-            length: all - count,
-        })
-    }
-}
-
-// The value is from 1 to the largest.
-fn is_within(value: u32, largest: u32) -> bool
-    ensures { result ≡ (nat_le 1 value && nat_le value largest) }
+// The value, if it is from 1 to the largest.
+fn within(value: u32, largest: u16) -> Option<u16>
+    ensures { result ≡ (if nat_le 1 value && nat_le value largest then Some value else None) }
 {
-    1 <= value && value <= largest
+    u16::try_from(value)
+        .ok()
+        .filter(|n| (1..=largest).contains(n))
 }
 
 fn sample_count(width: u16, height: u16, channels: u8) -> usize
@@ -132,7 +99,8 @@ fn sample_count(width: u16, height: u16, channels: u8) -> usize
 
 // The samples, if the bytes are one white byte and `count` samples, and no more.
 fn samples(rest: &[u8], count: usize) -> Option<&[u8]>
-    ensures { HoldsSamples result rest.now count }
+    ensures value { option_copied result ≡ (if ends_with count rest.now then Some (drop 1 rest.now) else None) }
+    ensures fewer { OnSome result (count < length rest.now) }
 {
     match rest {
         [blank, samples @ ..] if is_white(*blank) && samples.len() == count => Some(samples),
@@ -150,10 +118,7 @@ fn is_white(byte: u8) -> bool
 fn first_above(samples: &[u8], maximum: u16) -> Option<usize>
     ensures { result ≡ first_above maximum samples.now }
 {
-    for (i, sample) in samples.iter().enumerate() {
-        if u16::from(*sample) > maximum {
-            return Some(i);
-        }
-    }
-    None
+    samples
+        .iter()
+        .position(|sample| u16::from(*sample) > maximum)
 }

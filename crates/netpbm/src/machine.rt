@@ -1,6 +1,6 @@
 // Reads one number of a header, a byte at a time: a gap of white bytes and comments, and then up to five digits.
-ghost use Rattle.std.specs.Prelude.{◌≡◌, ◌≤◌, length};
-ghost use Rattle.netpbm.specs.Calls.{taken, left};
+ghost use Rattle.std.specs.Prelude.{◌≡◌, ◌≤◌, IfSome, length};
+ghost use Rattle.netpbm.specs.Calls.{taken};
 ghost use Rattle.netpbm.specs.Reading.{number as number_at};
 ghost use Rattle.netpbm.specs.States.{stepped, Sound};
 
@@ -29,6 +29,7 @@ enum State {
     Failed,
 }
 
+// A state that each byte changes in place.
 #[derive(Drop)]
 struct Machine {
     state: State,
@@ -61,17 +62,10 @@ impl Machine {
     }
 }
 
-// A number, and the bytes that stand after it.
-#[derive(Clone, Copy)]
-pub struct Found<'a> {
-    pub value: u32,
-    pub rest: &'a [u8],
-}
-
-// The number after the gap that `bytes` begin with.
-pub fn number(bytes: &[u8]) -> Option<Found<'_>>
+// The number after the gap that `bytes` begin with, and the bytes that stand after it.
+pub fn number(bytes: &[u8]) -> Option<(u32, &[u8])>
     ensures value { taken result ≡ number_at bytes.now }
-    ensures rest { left result ≤ length bytes.now }
+    ensures rest { IfSome result (λ n. length n.1.now ≤ length bytes.now) }
 {
     let mut machine = Machine {
         state: State::Before,
@@ -79,19 +73,13 @@ pub fn number(bytes: &[u8]) -> Option<Found<'_>>
     for (at, byte) in bytes.iter().enumerate() {
         machine.step(*byte);
         match machine.state {
-            State::Ended { value } => return Some(Found {
-                value,
-                rest: &bytes[at..],
-            }),
+            State::Ended { value } => return Some((value, &bytes[at..])),
             State::Failed => return None,
             _ => {}
         }
     }
     match machine.state {
-        State::Digits { value, .. } => Some(Found {
-            value,
-            rest: &bytes[bytes.len()..],
-        }),
+        State::Digits { value, .. } => Some((value, &[])),
         _ => None,
     }
 }

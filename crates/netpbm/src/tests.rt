@@ -72,13 +72,13 @@ const REFUSED: [(&[u8], Refusal); 29] = [
 
 #[test]
 fn reads_pictures(rt: HostRuntime) {
-    for (file, channels, width, height, maximum, length) in &PICTURES {
+    for (file, channels, width, height, maximum, length) in PICTURES {
         let header = Header {
-            channels: *channels,
-            width: *width,
-            height: *height,
-            maximum: *maximum,
-            length: *length,
+            channels,
+            width,
+            height,
+            maximum,
+            length,
         };
         assert_eq!(rt; read(file), Ok(header));
     }
@@ -86,8 +86,8 @@ fn reads_pictures(rt: HostRuntime) {
 
 #[test]
 fn refuses_others(rt: HostRuntime) {
-    for (file, refusal) in &REFUSED {
-        assert_eq!(rt; read(file), Err(*refusal));
+    for (file, refusal) in REFUSED {
+        assert_eq!(rt; read(file), Err(refusal));
     }
 }
 

@@ -28,7 +28,8 @@ pub fn exchange<C: CarrierMut>(c: &mut C, i: usize, v: i32) -> Result<i32, Refus
     Ok(at.code)
 }
 
-// The same on one pile: a window of a turn of a window of a corner carrier.
+// The same on one pile: a window of a turn of a window of a corner carrier. It stands beside the generic call because
+// its clauses say in the terms of that pile what the generic ones come to.
 pub fn exchange_in_pile(
     pile: &mut Window<Turn<Window<Corner<&mut [u8], u8>>>>,
     i: usize,
@@ -59,7 +60,7 @@ pub fn put_in_window<C: CarrierMut>(
     window.put(i, v)
 }
 
-// The same over the plain carrier of a picture: it says what the picture holds in the end.
+// The same over the plain carrier of a picture: it says what the picture holds in the end, which the generic call can't.
 pub fn put_in_picture(
     picture: &mut [u8],
     maximum: u8,
@@ -70,7 +71,7 @@ pub fn put_in_picture(
 ) -> Result<(), Refusal>
     ensures { Puts 1 (windowed start shown (plain_sites (plain_rest maximum picture.old))) i v (windowed start shown (plain_codes picture.old)) (windowed start shown (plain_codes picture.new)) picture.old picture.new result }
 {
-    let mut plain = Plain::writing(picture, maximum);
+    let mut plain = Plain::over(picture, maximum);
     put_in_window(&mut plain, start, shown, i, v)
 }
 

@@ -1,5 +1,5 @@
--- Each refusal's number, and the values that it tells. Assumes nothing.
-use Rattle.std.specs.Prelude.{◌≡◌, ℕ, List, [], ◌∷◌}
+-- Each refusal's number, its text, and the values that it tells. Assumes nothing.
+use Rattle.std.specs.Prelude.{◌≡◌, ℕ, List, [], ◌∷◌, ◌++◌, codes, decimal}
 use Rattle.refusal.specs.declared.Refusal.{Refusal}
 use Rattle.refusal.specs.declared.Refusal.TheVariants.{NoSuchPlace, ValueOutOfBounds, NotAPicture, NotAHeader, SizeOutOfBounds, MaximumOutOfBounds, WrongLength, SampleAboveMaximum, InputTooLong}
 
@@ -14,6 +14,10 @@ number_of MaximumOutOfBounds = 17
 number_of WrongLength = 18
 number_of (SampleAboveMaximum sample) = 19
 number_of InputTooLong = 20
+
+-- the text that `{}` writes
+abbrev pub refusal_text : Refusal → List ℕ
+refusal_text e = codes "refused " ++ decimal (number_of e)
 
 -- the values that it tells, in the order in which they are shown
 abbrev pub values_of : Refusal → List ℕ

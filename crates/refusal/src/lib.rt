@@ -2,8 +2,11 @@
 // case, and the values that it tells, are defined once, in specs/Numbers.antt.
 #![tactic(auto)]
 
-ghost use Rattle.std.specs.Prelude.{◌≡◌};
-ghost use Rattle.refusal.specs.Numbers.{number_of};
+ghost use Rattle.std.specs.Prelude.{◌≡◌, Some};
+ghost use Rattle.refusal.specs.Numbers.{number_of, refusal_text};
+
+use std::error::Error;
+use std::fmt;
 
 #[derive(Clone, Copy, PartialEq, Eq, Debug)]
 pub enum Refusal {
@@ -28,7 +31,8 @@ pub enum Refusal {
 }
 
 impl Refusal {
-    // The number by which users know the refusal.
+    // The number by which users know the refusal. A method with that name, and no `From`: it is no conversion, as the
+    // values of the refusal are no part of it.
     pub fn number(self) -> u8
         ensures { result ≡ number_of self }
     {
@@ -46,9 +50,20 @@ impl Refusal {
     }
 }
 
+impl fmt::Display for Refusal {
+    ghost output = { λ e. Some (refusal_text e) };
+
+    fn fmt<W: fmt::Write>(&self, f: &mut fmt::Formatter<W>) -> fmt::Result {
+        write!(f, "refused {}", self.number())
+    }
+}
+
+impl Error for Refusal {}
+
 #[cfg(test)]
 mod tests {
     use super::*;
+    use std::test::Fail;
 
     #[test]
     fn each_refusal_has_its_number(rt: HostRuntime) {
@@ -72,5 +87,23 @@ mod tests {
         for (refusal, number) in table {
             assert_eq!(rt; refusal.number(), number);
         }
+    }
+
+    #[test]
+    fn the_text_tells_the_number(rt: HostRuntime) -> Result<(), Fail> {
+        let place = Refusal::NoSuchPlace {
+            height: 1,
+            place: 2,
+        };
+        let table = [
+            (place, "refused 12"),
+            (Refusal::NotAPicture, "refused 14"),
+            (Refusal::InputTooLong, "refused 20"),
+        ];
+        for (refusal, text) in table {
+            let shown = format!(in rt.alloc(); "{refusal}")?;
+            assert_eq!(rt; shown.as_str(), text);
+        }
+        Ok(())
     }
 }

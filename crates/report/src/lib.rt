@@ -22,9 +22,8 @@ fn survey_samples(file: &[u8], header: Header) -> Surveyed
     requires { IsPicture file.now header }
     ensures { result ≡ plain_survey header.maximum (drop header.length file.now) }
 {
-    let start = header.length;
-    let maximum = header.maximum;
-    survey(&Plain::reading(&file[start..], maximum as u8))
+    let samples = &file[header.length..];
+    survey(&Plain::over(samples, header.maximum))
 }
 
 // Surveys the picture that a file holds.
@@ -50,17 +49,8 @@ pub fn line(heap: Global, outcome: Result<Surveyed, Refusal>) -> Result<String, 
     ensures { IfOk result (λ t. string_bytes t ≡ line_of (answer outcome)) }
 {
     match outcome {
-        Ok(found) => {
-            let peak = found.pair.peak;
-            let zero = found.pair.zero;
-            let slots = found.counts.slots;
-            let map_bits = found.counts.map_bits;
-            format!(in heap; "peak {peak} zero {zero} slots {slots} map {map_bits}\n")
-        }
-        Err(refusal) => {
-            let number = refusal.number();
-            format!(in heap; "refused {number}\n")
-        }
+        Ok(found) => format!(in heap; "{found}\n"),
+        Err(refusal) => format!(in heap; "{refusal}\n"),
     }
 }
 

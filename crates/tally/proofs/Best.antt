@@ -1,79 +1,77 @@
 -- The first best of a row, as a definition and as a relation. Assumes nothing.
-use Rattle.std.proofs.Common.{◌≡◌, ℕ, zero, suc, ◌+◌, ◌<◌, ◌≤◌, true, false, List, [], ◌∷◌, length, get_or, sym, ap, ◌∙◌, ⊎_elim, arith}
+use Rattle.std.proofs.Common.{◌≡◌, ℕ, zero, suc, ◌+◌, ◌-◌, ◌<◌, ◌≤◌, Bool, true, false, List, [], ◌∷◌, length, get_or, sym, ap, ◌∙◌, ⊎_elim, arith}
+use Rattle.std.specs.Prelude.{nat_lt}
 use Rattle.std.specs.Cmp.{IsStrictWeakOrder}
 use Rattle.std.specs.List.{IsFirstBest}
-use Rattle.std.proofs.lemmas.List.MinMax.{IsStrictWeakOrder-by_number, IsStrictWeakOrder-flip, IsFirstBest-takes, IsFirstBest-keeps, IsFirstBest-unique}
+use Rattle.std.proofs.lemmas.List.MinMax.{IsStrictWeakOrder-by_number, IsStrictWeakOrder-flip, IsFirstBest-none, IsFirstBest-takes, IsFirstBest-keeps, IsFirstBest-unique}
 use Rattle.std.proofs.lemmas.List.{get_or_default}
 use Rattle.std.proofs.lemmas.Bool.{cases_Bool, cond-true, cond-false}
-use Rattle.tally.specs.declared.Extreme.{Extreme}
-use Rattle.tally.specs.declared.Extreme.TheVariants.{Greatest, Least}
-use Rattle.tally.specs.Tally.{beats, first_best}
+use Rattle.tally.specs.Tally.{first_best}
 
-pub ranks : (e : Extreme) → IsStrictWeakOrder (beats e)
-ranks Greatest = IsStrictWeakOrder-flip _ (IsStrictWeakOrder-by_number (λ n. n))
-ranks Least = IsStrictWeakOrder-by_number (λ n. n)
+-- the greater count is better, and the smaller one
+pub greater : IsStrictWeakOrder (λ x y. nat_lt y x)
+greater = IsStrictWeakOrder-flip _ (IsStrictWeakOrder-by_number (λ n. n))
 
-never_itself : (e : Extreme) (x : ℕ) → beats e x x ≡ false
-never_itself e x = ⊎_elim (λ t. (ranks e).one_way x x t) (λ f. f) (cases_Bool (beats e x x))
+pub less : IsStrictWeakOrder (λ x y. nat_lt x y)
+less = IsStrictWeakOrder-by_number (λ n. n)
 
--- x before a row xs whose first best stands at r
-module _ (e : Extreme) (x : ℕ) (xs : List ℕ) (r : ℕ) (is : IsFirstBest (beats e) xs (length xs) r) where
-  same_best : (d : ℕ) → get_or xs r d ≡ get_or xs r 0
-  same_best d = get_or_default xs r d 0 is.0
+read : (xs : List ℕ) (k : ℕ) → k < length xs → get_or xs k 0 ≡ get_or xs k (get_or xs k 0)
+read xs k h = get_or_default xs k 0 (get_or xs k 0) h
 
-  beaten_by_rest : beats e (get_or xs r 0) x ≡ true → IsFirstBest (beats e) (x ∷ xs) (suc (length xs)) (suc r)
-  beaten_by_rest win = (omega (arith, is.0), none, earlier)
-    where
-      none : (k d : ℕ) → k < suc (length xs) → beats e (get_or (x ∷ xs) k d) (get_or (x ∷ xs) (suc r) d) ≡ false
-      none zero d h = ap (beats e x) (same_best d) ∙ (ranks e).one_way _ _ win
-      none (suc k) d h = is.1 k d (omega arith)
+module _ (o : ℕ → ℕ → Bool) (ranks : IsStrictWeakOrder o) where
+  never_itself : (x : ℕ) → o x x ≡ false
+  never_itself x = ⊎_elim (λ t. ranks.one_way x x t) (λ f. f) (cases_Bool (o x x))
 
-      earlier : (k d : ℕ) → k < suc r → beats e (get_or (x ∷ xs) (suc r) d) (get_or (x ∷ xs) k d) ≡ true
-      earlier zero d h = ap (λ v. beats e v x) (same_best d) ∙ win
-      earlier (suc k) d h = is.2 k d (omega arith)
+  -- x before a row xs whose first best stands at r
+  module _ (x : ℕ) (xs : List ℕ) (r : ℕ) (is : IsFirstBest o xs (length xs) r) where
+    same_best : (d : ℕ) → get_or xs r d ≡ get_or xs r 0
+    same_best d = get_or_default xs r d 0 is.0
 
-  unbeaten : beats e (get_or xs r 0) x ≡ false → IsFirstBest (beats e) (x ∷ xs) (suc (length xs)) 0
-  unbeaten lose = (omega arith, none, λ k d h. absurd (omega arith))
-    where
-      none : (k d : ℕ) → k < suc (length xs) → beats e (get_or (x ∷ xs) k d) (get_or (x ∷ xs) 0 d) ≡ false
-      none zero d h = never_itself e x
-      none (suc k) d h = (ranks e).chain _ (get_or xs r 0) _ (ap (beats e _) (sym (same_best d)) ∙ is.1 k d (omega arith)) lose
+    beaten_by_rest : o (get_or xs r 0) x ≡ true → IsFirstBest o (x ∷ xs) (suc (length xs)) (suc r)
+    beaten_by_rest win = (omega (arith, is.0), none, earlier)
+      where
+        none : (k d : ℕ) → k < suc (length xs) → o (get_or (x ∷ xs) k d) (get_or (x ∷ xs) (suc r) d) ≡ false
+        none zero d h = ap (o x) (same_best d) ∙ ranks.one_way _ _ win
+        none (suc k) d h = is.1 k d (omega arith)
 
-pub first_best_is : (e : Extreme) (x : ℕ) (xs : List ℕ) → IsFirstBest (beats e) (x ∷ xs) (length (x ∷ xs)) (first_best e (x ∷ xs))
-unfolding first_best
-first_best_is e x [] = (omega arith, only, λ k d h. absurd (omega arith))
-  where
-    only : (k d : ℕ) → k < 1 → beats e (get_or (x ∷ []) k d) (get_or (x ∷ []) 0 d) ≡ false
-    only zero d h = never_itself e x
-    only (suc k) d h = absurd (omega arith)
-first_best_is e x (y ∷ ys) =
-    let is = first_best_is e y ys in
-    let r = first_best e (y ∷ ys) in
-    ⊎_elim
-    (λ win. rw (cond-true _ (suc r) 0 win) (beaten_by_rest e x (y ∷ ys) r is win))
-    (λ lose. rw (cond-false _ (suc r) 0 lose) (unbeaten e x (y ∷ ys) r is lose))
-    (cases_Bool (beats e (get_or (y ∷ ys) r 0) x))
+        earlier : (k d : ℕ) → k < suc r → o (get_or (x ∷ xs) (suc r) d) (get_or (x ∷ xs) k d) ≡ true
+        earlier zero d h = ap (λ v. o v x) (same_best d) ∙ win
+        earlier (suc k) d h = is.2 k d (omega arith)
 
-pub first_best_in : (e : Extreme) (xs : List ℕ) → 0 < length xs → IsFirstBest (beats e) xs (length xs) (first_best e xs)
-first_best_in e [] h = absurd (omega arith)
-first_best_in e (x ∷ xs) h = first_best_is e x xs
+    unbeaten : o (get_or xs r 0) x ≡ false → IsFirstBest o (x ∷ xs) (suc (length xs)) 0
+    unbeaten lose = (omega arith, none, λ k d h. absurd (omega arith))
+      where
+        none : (k d : ℕ) → k < suc (length xs) → o (get_or (x ∷ xs) k d) (get_or (x ∷ xs) 0 d) ≡ false
+        none zero d h = never_itself x
+        none (suc k) d h = ranks.chain _ (get_or xs r 0) _ (ap (o _) (sym (same_best d)) ∙ is.1 k d (omega arith)) lose
 
--- one turn of a loop that keeps the first best
-module _ (e : Extreme) (xs : List ℕ) (i b : ℕ) (is : IsFirstBest (beats e) xs i b) (h : i < length xs) where
-  read : (k : ℕ) → k < length xs → get_or xs k 0 ≡ get_or xs k (get_or xs k 0)
-  read k l = get_or_default xs k 0 (get_or xs k 0) l
+  first_best_is : (x : ℕ) (xs : List ℕ) → IsFirstBest o (x ∷ xs) (length (x ∷ xs)) (first_best o (x ∷ xs))
+  unfolding first_best
+  first_best_is x [] = IsFirstBest-none ranks (x ∷ [])
+  first_best_is x (y ∷ ys) =
+      let is = first_best_is y ys in
+      let r = first_best o (y ∷ ys) in
+      ⊎_elim
+      (λ win. rw (cond-true _ (suc r) 0 win) (beaten_by_rest x (y ∷ ys) r is win))
+      (λ lose. rw (cond-false _ (suc r) 0 lose) (unbeaten x (y ∷ ys) r is lose))
+      (cases_Bool (o (get_or (y ∷ ys) r 0) x))
 
-  pub turn_takes : true ≡ beats e (get_or xs i 0) (get_or xs b 0) → IsFirstBest (beats e) xs (i + 1) i
-  turn_takes win = IsFirstBest-takes (ranks e) xs i b (get_or xs i 0) (get_or xs b 0) is h (read i h) (read b (omega (arith, is.0))) (sym win)
+  pub first_best_in : (xs : List ℕ) (n : ℕ) → length xs ≡ n → 0 < n → IsFirstBest o xs n (first_best o xs)
+  first_best_in [] n long some = absurd (omega arith)
+  first_best_in (x ∷ xs) n long some = rw (← long) (first_best_is x xs)
 
-  pub turn_keeps : false ≡ beats e (get_or xs i 0) (get_or xs b 0) → IsFirstBest (beats e) xs (i + 1) b
-  turn_keeps lose = IsFirstBest-keeps (ranks e) xs i b (get_or xs i 0) (get_or xs b 0) is h (read i h) (read b (omega (arith, is.0))) (sym lose)
+  -- one turn of a loop that keeps the first best of the counts before i
+  pub turn_takes : (xs : List ℕ) (i b : ℕ) → (0 < i → IsFirstBest o xs i b) → b ≤ i - 1 → i < length xs → o (get_or xs i 0) (get_or xs b 0) ≡ true → IsFirstBest o xs (i + 1) i
+  turn_takes xs zero b is low h win = IsFirstBest-none ranks xs
+  turn_takes xs (suc i) b is low h win = IsFirstBest-takes ranks xs (suc i) b _ _ (is (omega arith)) h (read xs (suc i) h) (read xs b (omega arith)) win
 
--- what a loop from place 1 on has found at the end of a row
-pub found : (e : Extreme) (xs : List ℕ) (i b : ℕ) → IsFirstBest (beats e) xs i b → i ≤ 1 + length xs → length xs ≤ i → (1 ≤ length xs → i ≤ length xs) → b ≡ first_best e xs
-unfolding first_best
-found e [] i b is few end kept = omega (arith, is.0)
-found e (x ∷ xs) i b is few end kept =
-    let all : i ≡ length (x ∷ xs) = omega (arith, kept (omega arith)) in
-    let whole : IsFirstBest (beats e) (x ∷ xs) (length (x ∷ xs)) b = rw all at is in
-    IsFirstBest-unique (ranks e) (x ∷ xs) (length (x ∷ xs)) b (first_best e (x ∷ xs)) 0 whole (first_best_is e x xs)
+  pub turn_keeps : (xs : List ℕ) (i b : ℕ) → (0 < i → IsFirstBest o xs i b) → b ≤ i - 1 → i < length xs → o (get_or xs i 0) (get_or xs b 0) ≡ false → IsFirstBest o xs (i + 1) b
+  turn_keeps xs zero b is low h lose = let first : b ≡ 0 = omega arith in rw first (IsFirstBest-none ranks xs)
+  turn_keeps xs (suc i) b is low h lose = IsFirstBest-keeps ranks xs (suc i) b _ _ (is (omega arith)) h (read xs (suc i) h) (read xs b (omega arith)) lose
+
+  -- what the loop has found at the end of the row
+  pub found : (xs : List ℕ) (i b : ℕ) → (0 < i → IsFirstBest o xs i b) → b ≤ i - 1 → i ≤ length xs → length xs ≤ i → b ≡ first_best o xs
+  unfolding first_best
+  found [] i b is low few end = omega arith
+  found (x ∷ xs) i b is low few end =
+      IsFirstBest-unique ranks (x ∷ xs) i b (first_best o (x ∷ xs)) 0 (is (omega arith)) (first_best_in (x ∷ xs) i (omega arith) (omega arith))

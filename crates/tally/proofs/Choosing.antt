@@ -1,15 +1,15 @@
 -- The chosen pair is the peak and the zero that the tally's words name. Assumes nothing.
-use Rattle.std.proofs.Common.{◌≡◌, ℕ, suc, ◌+◌, ◌-◌, ◌*◌, ◌<◌, ◌≤◌, List, length, get_or, take, drop, ℤ, pos, negsuc, neg_ℤ, ◌≤ℤ◌, sym, ap, ◌∙◌, subst, add-one, arith}
+use Rattle.std.proofs.Common.{◌≡◌, ℕ, suc, ◌+◌, ◌-◌, ◌*◌, ◌<◌, ◌≤◌, List, length, get_or, take, drop, ℤ, pos, negsuc, neg_ℤ, ◌≤ℤ◌, ap, ◌∙◌, subst, arith}
+use Rattle.std.specs.Prelude.{nat_lt}
 use Rattle.std.specs.List.{IsFirstBest}
 use Rattle.std.proofs.lemmas.List.FromFn.{length-map-range_with_len, get_or-map-range_with_len}
-use Rattle.std.proofs.lemmas.List.{get_or-take, get_or-drop, length-take, length-drop, take_rest}
+use Rattle.std.proofs.lemmas.List.{get_or-take, get_or-drop, length-take, length-drop}
 use Rattle.std.proofs.lemmas.Int.{ints}
 use Rattle.std.proofs.lemmas.Bool.{ltb-true, ltb-false}
 use Rattle.carrier.specs.Meaning.{Site}
-use Rattle.tally.specs.declared.Extreme.TheVariants.{Greatest, Least}
-use Rattle.tally.specs.Tally.{beats, occurs, tallied, tally, first_best}
+use Rattle.tally.specs.Tally.{occurs, tallied, tally, first_best}
 use Rattle.tally.specs.Choice.{peak_at, zero_at, peak_of, zero_of, IsPeak, IsZero}
-use Rattle.tally.proofs.Best.{first_best_in}
+use Rattle.tally.proofs.Best.{greater, less, first_best_in}
 
 -- each code from -reach on has a place in the tally
 code_place : (reach : ℕ) (c : ℤ) → neg_ℤ (pos reach) ≤ℤ c → (k : ℕ) × (tallied reach k ≡ c)
@@ -26,19 +26,16 @@ module _ (reach : ℕ) (some : 0 < reach) (sites : List Site) (codes : List ℤ)
   tally_at k h = get_or-map-range_with_len (λ j. occurs sites codes (tallied reach j)) 0 (2 * reach + 1) k k 0 h (omega arith)
 
   -- the peak is the first best of all but the last count
-  peak_first : IsFirstBest (beats Greatest) (take (2 * reach) (tally reach sites codes)) (2 * reach) (peak_at reach (tally reach sites codes))
-  peak_first =
-      let long : length (take (2 * reach) (tally reach sites codes)) ≡ 2 * reach = omega (arith, length-take (2 * reach) (tally reach sites codes), length-tally) in
-      subst (λ n. IsFirstBest (beats Greatest) (take (2 * reach) (tally reach sites codes)) n (peak_at reach (tally reach sites codes))) long
-      (first_best_in Greatest (take (2 * reach) (tally reach sites codes)) (omega arith))
+  peak_first : IsFirstBest (λ x y. nat_lt y x) (take (2 * reach) (tally reach sites codes)) (2 * reach) (peak_at reach (tally reach sites codes))
+  peak_first = first_best_in _ greater _ _ (omega (arith, length-take (2 * reach) (tally reach sites codes), length-tally)) (omega arith)
 
-  pub peak_within : peak_at reach (tally reach sites codes) < 2 * reach
+  peak_within : peak_at reach (tally reach sites codes) < 2 * reach
   peak_within = peak_first.0
 
   front_at : (k : ℕ) → k < 2 * reach → get_or (take (2 * reach) (tally reach sites codes)) k 0 ≡ occurs sites codes (tallied reach k)
   front_at k h = get_or-take (2 * reach) (tally reach sites codes) k 0 h ∙ tally_at k (omega arith)
 
-  pub is_peak_code : IsPeak reach sites codes (tallied reach (peak_at reach (tally reach sites codes)))
+  is_peak_code : IsPeak reach sites codes (tallied reach (peak_at reach (tally reach sites codes)))
   is_peak_code =
       let b = peak_at reach (tally reach sites codes) in
       let low = peak_within in
@@ -59,21 +56,15 @@ module _ (reach : ℕ) (some : 0 < reach) (sites : List Site) (codes : List ℤ)
 
   -- the zero is the first best of the counts after the peak
   module _ (b : ℕ) (low : b < 2 * reach) where
-    back_length : length (drop (suc b) (tally reach sites codes)) ≡ 2 * reach - b
-    back_length = omega (arith, length-drop (suc b) (tally reach sites codes), length-tally)
-
-    zero_first : IsFirstBest (beats Least) (drop (suc b) (tally reach sites codes)) (2 * reach - b) (first_best Least (drop (suc b) (tally reach sites codes)))
-    zero_first =
-        let long = back_length in
-        subst (λ n. IsFirstBest (beats Least) (drop (suc b) (tally reach sites codes)) n (first_best Least (drop (suc b) (tally reach sites codes)))) long
-        (first_best_in Least (drop (suc b) (tally reach sites codes)) (omega arith))
+    zero_first : IsFirstBest (λ x y. nat_lt x y) (drop (suc b) (tally reach sites codes)) (2 * reach - b) (first_best (λ x y. nat_lt x y) (drop (suc b) (tally reach sites codes)))
+    zero_first = first_best_in _ less _ _ (omega (arith, length-drop (suc b) (tally reach sites codes), length-tally)) (omega arith)
 
     back_at : (j : ℕ) → j < 2 * reach - b → get_or (drop (suc b) (tally reach sites codes)) j 0 ≡ occurs sites codes (tallied reach (suc b + j))
     back_at j h = get_or-drop (suc b) (tally reach sites codes) j 0 ∙ tally_at (suc b + j) (omega arith)
 
-    zero_after : IsZero reach sites codes (tallied reach b) (tallied reach (suc b + first_best Least (drop (suc b) (tally reach sites codes))))
+    zero_after : IsZero reach sites codes (tallied reach b) (tallied reach (suc b + first_best (λ x y. nat_lt x y) (drop (suc b) (tally reach sites codes))))
     zero_after =
-        let r = first_best Least (drop (suc b) (tally reach sites codes)) in
+        let r = first_best (λ x y. nat_lt x y) (drop (suc b) (tally reach sites codes)) in
         let in' : r < 2 * reach - b = zero_first.0 in
         record {
           low = omega (arith, ints);
@@ -94,16 +85,11 @@ module _ (reach : ℕ) (some : 0 < reach) (sites : List Site) (codes : List ℤ)
               subst (λ z. occurs sites codes (tallied reach (suc b + r)) < occurs sites codes z) (ap (tallied reach) same ∙ e) (omega (arith, lt, back_at (k - suc b) (omega arith), back_at r in'));
         }
 
-  pub is_zero : IsZero reach sites codes (tallied reach (peak_at reach (tally reach sites codes))) (tallied reach (zero_at reach (tally reach sites codes)))
-  is_zero = zero_after (peak_at reach (tally reach sites codes)) peak_within
+  is_zero_code : IsZero reach sites codes (tallied reach (peak_at reach (tally reach sites codes))) (tallied reach (zero_at reach (tally reach sites codes)))
+  is_zero_code = zero_after (peak_at reach (tally reach sites codes)) peak_within
 
-  -- the pair that the tally tells
-  pub chosen : (p z : ℤ) (counts : List ℕ) → counts ≡ tally reach sites codes → p ≡ tallied reach (peak_at reach counts) → z ≡ tallied reach (zero_at reach counts) → (p ≡ peak_of reach sites codes) × (z ≡ zero_of reach sites codes) × IsPeak reach sites codes p × IsZero reach sites codes p z
-  chosen p z counts told peak zero =
-      let at : p ≡ peak_of reach sites codes = peak ∙ ap (λ t. tallied reach (peak_at reach t)) told in
-      let end : z ≡ zero_of reach sites codes = zero ∙ ap (λ t. tallied reach (zero_at reach t)) told in
-      (at, end, rw at is_peak_code, rw (at, end) is_zero)
+  pub is_peak : (p : ℤ) → p ≡ peak_of reach sites codes → IsPeak reach sites codes p
+  is_peak p e = rw e is_peak_code
 
--- `&counts[p + 1..n]` of a row of n counts
-pub above : (xs : List ℕ) (n p : ℕ) → length xs ≡ n → take (n - (p + 1)) (drop (p + 1) xs) ≡ drop (suc p) xs
-above xs n p e = ap (λ m. take (m - (p + 1)) (drop (p + 1) xs)) (sym e) ∙ take_rest xs (p + 1) ∙ ap (λ k. drop k xs) (add-one p)
+  pub is_zero : (p z : ℤ) → p ≡ peak_of reach sites codes → z ≡ zero_of reach sites codes → IsZero reach sites codes p z
+  is_zero p z at end = rw (at, end) is_zero_code

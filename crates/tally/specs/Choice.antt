@@ -1,18 +1,17 @@
 -- The pair that the survey chooses for a mark. Assumes nothing.
-use Rattle.std.specs.Prelude.{ℕ, suc, ◌+◌, ◌*◌, ◌<◌, ◌≤◌, List, take, drop, ℤ, pos, neg_ℤ, ◌≤ℤ◌, ◌<ℤ◌}
+use Rattle.std.specs.Prelude.{ℕ, suc, ◌+◌, ◌*◌, ◌<◌, ◌≤◌, List, take, drop, ℤ, pos, neg_ℤ, ◌≤ℤ◌, ◌<ℤ◌, nat_lt}
 use Rattle.carrier.specs.Meaning.{Site}
 use Rattle.mark.specs.Rows.{slots, map_bits_of}
-use Rattle.tally.specs.declared.Extreme.TheVariants.{Greatest, Least}
 use Rattle.tally.specs.declared.Surveyed.{Surveyed}
 use Rattle.tally.specs.Tally.{occurs, tallied, tally, first_best}
 
 -- where the tally has the peak: the first greatest count of all but the last code
 abbrev pub peak_at : ℕ → List ℕ → ℕ
-peak_at reach counts = first_best Greatest (take (2 * reach) counts)
+peak_at reach counts = first_best (λ x y. nat_lt y x) (take (2 * reach) counts)
 
 -- and the zero: the first least count after the peak
 abbrev pub zero_at : ℕ → List ℕ → ℕ
-zero_at reach counts = suc (peak_at reach counts) + first_best Least (drop (suc (peak_at reach counts)) counts)
+zero_at reach counts = suc (peak_at reach counts) + first_best (λ x y. nat_lt x y) (drop (suc (peak_at reach counts)) counts)
 
 -- the codes that stand there
 abbrev pub peak_of : ℕ → List Site → List ℤ → ℤ

@@ -1,2 +1,3 @@
 pub mod Tally
 pub mod Choice
+pub mod Text

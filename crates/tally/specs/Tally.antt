@@ -1,11 +1,9 @@
--- How often each code occurs, and where a row of counts has its first greatest or least. Assumes nothing.
-use Rattle.std.specs.Prelude.{ℕ, suc, ◌+◌, ◌*◌, Bool, cond, List, [], ◌∷◌, map, ℤ, pos, ◌-ℤ◌, nat_lt, slice_index}
+-- How often each code occurs, and where a row of counts has its first best. Assumes nothing.
+use Rattle.std.specs.Prelude.{◌≡◌, ℕ, suc, ◌+◌, ◌*◌, Bool, if◌then◌else◌, List, [], ◌∷◌, map, ℤ, pos, ◌-ℤ◌, slice_index}
 use Rattle.std.specs.List.{range_with_len}
 use Rattle.carrier.specs.Meaning.{Site}
 use Rattle.mark.specs.Places.{same}
 use Rattle.mark.specs.Rows.{places_with}
-use Rattle.tally.specs.declared.Extreme.{Extreme}
-use Rattle.tally.specs.declared.Extreme.TheVariants.{Greatest, Least}
 
 -- the place has this code
 abbrev pub has_code : ℤ → Site → ℤ → Bool
@@ -23,13 +21,12 @@ tallied reach k = pos k -ℤ pos reach
 unfoldable pub tally : ℕ → List Site → List ℤ → List ℕ
 tally reach sites codes = map (λ k. occurs sites codes (tallied reach k)) (range_with_len 0 (2 * reach + 1))
 
--- the count x is better than the count y
-abbrev pub beats : Extreme → ℕ → ℕ → Bool
-beats Greatest x y = nat_lt y x
-beats Least x y = nat_lt x y
+-- each answer about two counts is what o says of them
+abbrev pub AnswersAs : (ℕ → ℕ → Bool → Type 0) → (ℕ → ℕ → Bool) → Type 0
+AnswersAs answers o = (x y : ℕ) (r : Bool) → answers x y r → r ≡ o x y
 
--- where the first of the best counts stands, 0 in an empty row
-unfoldable pub first_best : Extreme → List ℕ → ℕ
-first_best e [] = 0
-first_best e (x ∷ []) = 0
-first_best e (x ∷ y ∷ ys) = let r = first_best e (y ∷ ys) in cond (beats e (slice_index (y ∷ ys) r) x) (suc r) 0
+-- where the first of the best counts stands, 0 in an empty row; the count x is better than the count y where o x y
+unfoldable pub first_best : (ℕ → ℕ → Bool) → List ℕ → ℕ
+first_best o [] = 0
+first_best o (x ∷ []) = 0
+first_best o (x ∷ y ∷ ys) = let r = first_best o (y ∷ ys) in if o (slice_index (y ∷ ys) r) x then suc r else 0

@@ -2,7 +2,7 @@ use super::*;
 use carrier::Plain;
 
 fn surveyed(picture: &[u8], maximum: u8) -> (i32, i32, usize, usize) {
-    let found = survey(&Plain::reading(picture, maximum));
+    let found = survey(&Plain::over(picture, maximum));
     (
         found.pair.peak,
         found.pair.zero,
@@ -31,10 +31,8 @@ fn the_pair_of_small_rows(rt: HostRuntime) {
 #[test]
 fn the_pair_of_all_values(rt: HostRuntime) {
     let mut picture = [0u8; 256];
-    let mut value = 0u8;
-    for sample in picture.iter_mut() {
+    for (sample, value) in picture.iter_mut().zip(0..=255) {
         *sample = value;
-        value = value.wrapping_add(1);
     }
     assert_eq!(rt; surveyed(&picture, 255), (0, 1, 2, 2));
 }

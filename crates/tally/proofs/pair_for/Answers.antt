@@ -1,9 +1,9 @@
-use Rattle.std.proofs.Common.{arith}
-use Rattle.tally.proofs.Choosing.{chosen}
+use Rattle.std.proofs.Common.{rules, arith}
+use Rattle.tally.proofs.Choosing.{is_peak, is_zero}
 use Rattle.tally.proofs.pair_for.Goals as goal
 
-pub returns : goal.returns
-returns g c =
-    let pair = c.choose.ensures in
-    let all = chosen 255 (omega arith) _ _ _ _ _ c.count_codes.ensures pair.peak pair.zero in
-    record { peak = all.0; zero = all.1; is_peak = all.2; is_zero = all.3 }
+pub returns-clause-is_peak : goal.returns-clause-is_peak
+returns-clause-is_peak g c = is_peak 255 (omega arith) _ _ _ (search rules)
+
+pub returns-clause-is_zero : goal.returns-clause-is_zero
+returns-clause-is_zero g c = is_zero 255 (omega arith) _ _ _ _ (search rules) (search rules)

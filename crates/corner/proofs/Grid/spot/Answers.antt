@@ -21,7 +21,7 @@ pub returns-then-upper-line : goal.returns-then-upper-line
 returns-then-upper-line c =
     let row : c.divided-row.result.0 ≡ block_row c.args.self.width (channel_count c.args.self.channels) c.args.p = c.divided-row.ensures.quotient ∙ ap (λ b. b / across c.args.self.width) c.split-block.ensures.block in
     let w = c.from.ensures in
-    let n = c.number-step.ensures in
+    let n = c.from-step.ensures in
     past_end _ _ _ _ (subst (λ k. c.args.total < k) (λ i. 2 * row i * (w i * n i) + 2 * (w i * n i)) c.if-upper-line.true)
 
 pub returns : goal.returns
@@ -29,7 +29,7 @@ returns c =
     let b = c.split-block.ensures.block in
     let ch = c.split-block.ensures.channel in
     let w = c.from.ensures in
-    let n = c.number-step.ensures in
+    let n = c.from-step.ensures in
     let row : c.divided-row.result.0 ≡ block_row c.args.self.width (channel_count c.args.self.channels) c.args.p = c.divided-row.ensures.quotient ∙ ap (λ k. k / across c.args.self.width) b in
     let column : c.divided-row.result.1 ≡ block_column c.args.self.width (channel_count c.args.self.channels) c.args.p = c.divided-row.ensures.remainder ∙ ap (λ k. k % across c.args.self.width) b in
     located _ _ _ _ c.requires (some-channels c.args.self.channels) (search rules)

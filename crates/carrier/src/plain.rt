@@ -18,7 +18,7 @@ pub fn used(total: usize) -> usize
     total.min(MOST)
 }
 
-// The place of sample `i`, whose value is `v`.
+// The place of sample `i`, whose value is `v`. There is no prediction here, not even one of 0.
 fn place_of(v: u16, maximum: u16, i: usize) -> Place
     ensures code { result.code ≡ pos v }
     ensures site { site_of result ≡ plain_site maximum i }

@@ -1,5 +1,5 @@
 -- What the plain carrier says of its places. Assumes nothing.
-use Rattle.std.proofs.Common.{◌≡◌, ℕ, ◌<◌, ◌≤◌, Bool, true, List, map, length, slice_index, slice_index_or, take, slice_set, ℤ, pos, ◌-ℤ◌, unsigned_abs, sym, ap, ◌∙◌, subst, arith}
+use Rattle.std.proofs.Common.{◌≡◌, ℕ, ◌<◌, ◌≤◌, min, Bool, true, List, map, length, slice_index, slice_index_or, take, slice_set, ℤ, pos, ◌-ℤ◌, unsigned_abs, sym, ap, ◌∙◌, subst, arith}
 use lib.Seq.{take-set-lt}
 use Rattle.std.proofs.lemmas.List.{get_or-map, get_or-take, length-take, length-set, map-set, drop-set-lt}
 use Rattle.std.proofs.lemmas.Int.{ints}
@@ -9,6 +9,10 @@ use Rattle.carrier.specs.Storing.{Holds, Stored}
 use Rattle.carrier.proofs.Putting.{taken, pos_nat_abs, stored, moved}
 use Rattle.carrier.specs.Plain.{most, plain_codes, plain_rest, plain_site, plain_sites}
 use Rattle.carrier.specs.PlainMeaning.{length-plain_codes, plain_site_at}
+
+-- a plain carrier has as many places as samples that it uses
+pub as_many : (n : ℕ) (s : List ℕ) → n ≡ min most (length s) → n ≡ length (plain_codes s)
+as_many n s e = e ∙ sym (length-plain_codes s)
 
 module _ (s : List ℕ) (i : ℕ) where
   pub within : i < most → i < length s → i < length (plain_codes s)

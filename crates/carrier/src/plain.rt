@@ -64,6 +64,7 @@ impl<S: Samples, M: Sample> Carrier for Plain<S, M> {
 
     ghost meaning = { plain_meaning (λ p. M.value p.maximum) (λ p. S.Samples.values p.samples) };
 
+    #[tactic(auto, using(crate::proofs::PlainPlaces::as_many))]
     fn count(&self) -> usize {
         used(self.samples.total())
     }

@@ -19,6 +19,10 @@ use Rattle.corner.specs.Numbering.{seat_below, seats_apart, left_no_seat, above_
 use Rattle.corner.specs.Spots.{Located}
 use Rattle.corner.proofs.Locating.{left_before, above_before, diagonal_before}
 
+-- a corner carrier has as many places as there are in the samples that it uses
+pub as_many : (n w c : ℕ) (s : List ℕ) → n ≡ corner_count w c s → n ≡ length (corner_codes w c s)
+as_many n w c s e = e ∙ sym (length-corner_codes w c s)
+
 pub past : (w c : ℕ) (s : List ℕ) (p : ℕ) → corner_count w c s ≤ p → length (corner_codes w c s) ≤ p
 past w c s p h = omega (arith, length-corner_codes w c s)
 

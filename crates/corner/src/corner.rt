@@ -94,6 +94,7 @@ impl<S: Samples, M: Sample> Carrier for Corner<S, M> {
 
     ghost meaning = { corner_meaning (λ p. M.value p.maximum) (λ p. p.grid.width) (λ p. channel_count p.grid.channels) (λ p. S.Samples.values p.samples) };
 
+    #[tactic(auto, using(crate::proofs::CornerPlaces::as_many))]
     fn count(&self) -> usize {
         self.grid.count(self.used())
     }

@@ -1,6 +1,7 @@
 -- A pass over a carrier that counts: what is counted so far and what is left make up the whole. Assumes nothing.
 use Rattle.std.proofs.Common.{if◌then◌else◌, ◌≡◌, ℕ, ◌+◌, ◌<◌, ◌≤◌, Bool, true, false, ◌||◌, List, length, drop, ℤ, pos, Some, sym, refl, ap, ◌∙◌, add-zero, add_assoc, zero-add, arith}
 use mir.Val.{bool_byte}
+use Rattle.std.proofs.Math.Bool.{or_assoc, or-false}
 use Rattle.std.proofs.lemmas.List.{drop_more, drop_all}
 use Rattle.carrier.specs.declared.interface.Place.{Place}
 use Rattle.carrier.specs.Meaning.{Site, Describes, GivesPlace, no_site, site_of}
@@ -34,14 +35,6 @@ pub record Counted (test : Site → ℤ → Bool) (sites : List Site) (codes : L
 -- t says whether one of the first i places passes the test
 pub record Found (test : Site → ℤ → Bool) (sites : List Site) (codes : List ℤ) (i : ℕ) (t : Bool) : Type 0 where
   pub left : (t || some_with test (drop i sites) (drop i codes)) ≡ some_with test sites codes
-
-or_assoc : (a b c : Bool) → ((a || b) || c) ≡ (a || (b || c))
-or_assoc true b c = refl
-or_assoc false b c = refl
-
-or-false : (a : Bool) → (a || false) ≡ a
-or-false true = refl
-or-false false = refl
 
 one_at_most : (b : Bool) → (if b then 1 else 0) ≤ 1
 one_at_most true = omega arith

@@ -1,5 +1,5 @@
 -- The chosen pair is the peak and the zero that the tally's words name. Assumes nothing.
-use Rattle.std.proofs.Common.{◌≡◌, ℕ, suc, ◌+◌, ◌-◌, ◌*◌, ◌<◌, ◌≤◌, List, length, get_or, take, drop, ℤ, pos, negsuc, neg_ℤ, ◌≤ℤ◌, ap, ◌∙◌, subst, arith}
+use Rattle.std.proofs.Common.{◌≡◌, ℕ, suc, ◌+◌, ◌-◌, ◌*◌, ◌<◌, ◌≤◌, List, length, slice_index, take, drop, ℤ, pos, negsuc, neg_ℤ, ◌≤ℤ◌, ap, ◌∙◌, subst, arith}
 use Rattle.std.specs.Prelude.{nat_lt}
 use Rattle.std.specs.List.{IsFirstBest}
 use Rattle.std.proofs.lemmas.List.FromFn.{length-map-range_with_len, get_or-map-range_with_len}
@@ -21,7 +21,7 @@ module _ (reach : ℕ) (some : 0 < reach) (sites : List Site) (codes : List ℤ)
   unfolding tally
   length-tally = length-map-range_with_len (λ k. occurs sites codes (tallied reach k)) 0 (2 * reach + 1)
 
-  tally_at : (k : ℕ) → k < 2 * reach + 1 → get_or (tally reach sites codes) k 0 ≡ occurs sites codes (tallied reach k)
+  tally_at : (k : ℕ) → k < 2 * reach + 1 → slice_index (tally reach sites codes) k ≡ occurs sites codes (tallied reach k)
   unfolding tally
   tally_at k h = get_or-map-range_with_len (λ j. occurs sites codes (tallied reach j)) 0 (2 * reach + 1) k k 0 h (omega arith)
 
@@ -32,7 +32,7 @@ module _ (reach : ℕ) (some : 0 < reach) (sites : List Site) (codes : List ℤ)
   peak_within : peak_at reach (tally reach sites codes) < 2 * reach
   peak_within = peak_first.0
 
-  front_at : (k : ℕ) → k < 2 * reach → get_or (take (2 * reach) (tally reach sites codes)) k 0 ≡ occurs sites codes (tallied reach k)
+  front_at : (k : ℕ) → k < 2 * reach → slice_index (take (2 * reach) (tally reach sites codes)) k ≡ occurs sites codes (tallied reach k)
   front_at k h = get_or-take (2 * reach) (tally reach sites codes) k 0 h ∙ tally_at k (omega arith)
 
   is_peak_code : IsPeak reach sites codes (tallied reach (peak_at reach (tally reach sites codes)))
@@ -59,7 +59,7 @@ module _ (reach : ℕ) (some : 0 < reach) (sites : List Site) (codes : List ℤ)
     zero_first : IsFirstBest (λ x y. nat_lt x y) (drop (suc b) (tally reach sites codes)) (2 * reach - b) (first_best (λ x y. nat_lt x y) (drop (suc b) (tally reach sites codes)))
     zero_first = first_best_in _ less _ _ (omega (arith, length-drop (suc b) (tally reach sites codes), length-tally)) (omega arith)
 
-    back_at : (j : ℕ) → j < 2 * reach - b → get_or (drop (suc b) (tally reach sites codes)) j 0 ≡ occurs sites codes (tallied reach (suc b + j))
+    back_at : (j : ℕ) → j < 2 * reach - b → slice_index (drop (suc b) (tally reach sites codes)) j ≡ occurs sites codes (tallied reach (suc b + j))
     back_at j h = get_or-drop (suc b) (tally reach sites codes) j 0 ∙ tally_at (suc b + j) (omega arith)
 
     zero_after : IsZero reach sites codes (tallied reach b) (tallied reach (suc b + first_best (λ x y. nat_lt x y) (drop (suc b) (tally reach sites codes))))

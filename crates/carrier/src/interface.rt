@@ -5,6 +5,7 @@ ghost use Rattle.carrier.specs.Meaning.{Site, Meaning, Describes, GivesPlace, Lo
 ghost use Rattle.refusal.specs.Answers.{answer};
 
 use refusal::Refusal;
+use std::ops::Range;
 
 // What a carrier answers for one place: its code, the least and the greatest value that may be put there, and its seat,
 // the number of the sample that it stands for.
@@ -27,7 +28,7 @@ impl Place {
 
 // A picture seen as a row of places, each of which stands for one sample, its seat. There are at most 2^26.
 pub trait Carrier {
-    // All that a carrier has but its codes: lows, highs, seats, height, the samples that are no seats, and perhaps more.
+    // All that a carrier has but its codes: lows, highs, seats, height, the samples that are no seats, perhaps more.
     ghost Rest: { Type 0 };
 
     ghost rest: { Self → Rest };
@@ -35,7 +36,8 @@ pub trait Carrier {
     // The code of each place, in the order of places.
     ghost codes: { Self → List ℤ };
 
-    // Low, high and seat of each place.
+    // Low, high and seat of each place. Clauses name sites and codes side by side, and no row of both: a put leaves the
+    // rest, and with it the sites, and changes codes.
     ghost sites: { Rest → List Site };
 
     // The height.
@@ -74,12 +76,11 @@ pub trait Carrier {
     where
         Self: Sized,
         ensures carrier { result.carrier.now ≡ self.now }
-        ensures next { result.next ≡ 0 }
+        ensures first { result.numbers.start ≡ 0 }
     {
         Places {
             carrier: self,
-            next: 0,
-            count: self.count(),
+            numbers: 0..self.count(),
         }
     }
 }
@@ -88,25 +89,20 @@ pub trait Carrier {
 #[derive(Drop)]
 pub struct Places<'a, C: Carrier> {
     carrier: &'a C,
-    next: usize,
-    count: usize,
-    ghost counted: { count ≡ length (C.codes carrier.now) },
+    numbers: Range<usize>,
+    ghost counted: { numbers.end ≡ length (C.codes carrier.now) },
 }
 
 impl<'a, C: Carrier> Iterator for Places<'a, C> {
     type Item = Place;
 
-    ghost next_gives = { λ s r t. (t.carrier ≡ s.carrier) × GivesPlace (C.sites (C.rest s.carrier.now)) (C.codes s.carrier.now) s.next t.next r };
+    ghost next_gives = { λ s r t. (t.carrier ≡ s.carrier) × GivesPlace (C.sites (C.rest s.carrier.now)) (C.codes s.carrier.now) s.numbers.start t.numbers.start r };
 
-    ghost remaining = { λ s. at_most (length (C.codes s.carrier.now) - s.next) };
+    ghost remaining = { λ s. at_most (length (C.codes s.carrier.now) - s.numbers.start) };
 
     fn next(&mut self) -> Option<Place> {
-        if self.next >= self.count {
-            return None;
-        }
-        let at = self.carrier.get(self.next).unwrap();
-        self.next += 1;
-        Some(at)
+        let i = self.numbers.next()?;
+        Some(self.carrier.get(i).unwrap())
     }
 }
 
@@ -125,7 +121,7 @@ pub trait CarrierMut: Carrier {
         ensures lent { lent self.new ≡ lent self.old };
 }
 
-// The questions of a put of `v` at place `i`, for a bottom carrier: place `i`, where it takes `v`, and else the refusal.
+// The questions of a put of `v` at place `i`, for a bottom carrier: place `i` if it takes `v`, and else the refusal.
 pub fn may_put<C: Carrier>(c: &C, i: usize, v: i32) -> Result<Place, Refusal>
     ensures says { accepting (answer result) ≡ put_answer (C.level (C.rest c.now)) (C.sites (C.rest c.now)) (C.codes c.now) i v }
     ensures codes { put_codes (C.sites (C.rest c.now)) (C.codes c.now) i v ≡ (if is_ok result then slice_set (C.codes c.now) i v else C.codes c.now) }

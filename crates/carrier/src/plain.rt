@@ -18,7 +18,8 @@ pub fn used(total: usize) -> usize
     total.min(MOST)
 }
 
-// The place of sample `i`, whose value is `v`. There is no prediction here, not even one of 0.
+// The place of sample `i`, whose value is `v`. Not the corner carrier's `place_of` with a prediction of 0: nothing is
+// predicted here.
 fn place_of(v: u16, maximum: u16, i: usize) -> Place
     ensures code { result.code ≡ pos v }
     ensures site { site_of result ≡ plain_site maximum i }
@@ -31,7 +32,7 @@ fn place_of(v: u16, maximum: u16, i: usize) -> Place
     }
 }
 
-// A picture that is written has a maximum of the type of its samples, `M`, so that each of them can be it.
+// A picture that is written has a maximum of the type of its samples, `M`, so that any sample can hold it.
 #[derive(Drop)]
 pub struct Plain<S, M = u8> {
     samples: S,
@@ -39,8 +40,8 @@ pub struct Plain<S, M = u8> {
 }
 
 impl<S: Samples, M: Sample> Plain<S, M> {
-    // Opens the plain carrier of a picture, which can be written if its samples can. Codes above the maximum are read
-    // as they are.
+    // Opens the plain carrier of a picture, which can be written if its samples can and the maximum has their type.
+    // Codes above the maximum are read as they are.
     pub fn over(samples: S, maximum: M) -> Plain<S, M>
         ensures samples { result.samples ≡ samples }
         ensures maximum { result.maximum ≡ maximum }
@@ -84,13 +85,13 @@ impl<S: Samples, M: Sample> Carrier for Plain<S, M> {
 }
 
 impl<M: Sample, S: SamplesMut<M>> Plain<S, M> {
-    // Makes `v`, which place `i` takes, its code. Each bottom carrier has these two lines, with clauses that say what they
-    // do to its codes; a trait for them would add a call to each and take away nothing.
+    // Makes `v`, which place `i` takes, its code. Each bottom carrier has this call and `put` of its own: shared, this
+    // one would be a call that other crates see, and such a call may not have a `requires`.
     fn write(&mut self, i: usize, at: Place, v: i32)
-        requires there { Describes (plain_sites (plain_rest (M.value self.old.maximum) (S.Samples.values self.old.samples))) (plain_codes (S.Samples.values self.old.samples)) i at }
+        requires there { Describes (⟦<Self as Carrier>⟧.sites (⟦<Self as Carrier>⟧.rest self.old)) (⟦<Self as Carrier>⟧.codes self.old) i at }
         requires taken { takes (site_of at) v ≡ true }
-        ensures puts { Puts 0 (plain_sites (plain_rest (M.value self.old.maximum) (S.Samples.values self.old.samples))) i v (plain_codes (S.Samples.values self.old.samples)) (plain_codes (S.Samples.values self.new.samples)) (S.Samples.values self.old.samples) (S.Samples.values self.new.samples) (Ok result) }
-        ensures rest { plain_rest (M.value self.new.maximum) (S.Samples.values self.new.samples) ≡ plain_rest (M.value self.old.maximum) (S.Samples.values self.old.samples) }
+        ensures puts { Puts 0 (⟦<Self as Carrier>⟧.sites (⟦<Self as Carrier>⟧.rest self.old)) i v (⟦<Self as Carrier>⟧.codes self.old) (⟦<Self as Carrier>⟧.codes self.new) (⟦<Self as Carrier>⟧.picture self.old) (⟦<Self as Carrier>⟧.picture self.new) (Ok result) }
+        ensures rest { ⟦<Self as Carrier>⟧.rest self.new ≡ ⟦<Self as Carrier>⟧.rest self.old }
         ensures lent { S.SamplesMut.lent self.new.samples ≡ S.SamplesMut.lent self.old.samples }
     {
         // the maximum is no more than a sample can hold

@@ -51,8 +51,8 @@ pub trait SamplesMut<M: Sample>: Samples {
     // The memory that they borrow, by the ghost names of its references.
     ghost lent: { Self → List ℕ };
 
-    // Makes `v` sample `i`. False, and nothing changed, where there is no such sample or it cannot hold `v`. A `bool`, as
-    // of a set's `insert`, since no value and no reason stand beside it.
+    // Makes `v` sample `i`. False, and nothing changed, where there is no such sample or it cannot hold `v`. It is a
+    // `bool`, as of a set's `insert`: there is no value beside it, and no caller asks which of the two it was.
     fn store(&mut self, i: usize, v: i32) -> bool
         ensures stored { Stored M.widest i v (Self.Samples.values self.old) (Self.Samples.values self.new) result }
         ensures lent { lent self.new ≡ lent self.old };

@@ -13,7 +13,7 @@ use crate::{Grid, Spot};
 use carrier::{Carrier, CarrierMut, Place, Sample, Samples, SamplesMut, may_put, used};
 use refusal::Refusal;
 
-// The place with the seat `seat`, whose sample is `v` where `m` is predicted.
+// The place with the seat `seat`, whose sample is `v` where `m` is predicted. In `Plain` nothing is predicted.
 fn place_of(v: u16, m: u16, maximum: u16, seat: usize) -> Place
     ensures code { result.code ≡ corner_code m v }
     ensures site { site_of result ≡ corner_site maximum m seat }
@@ -47,7 +47,7 @@ fn prediction<S: Samples>(samples: &S, spot: Spot) -> u16
     predict(left, above, diagonal)
 }
 
-// A picture that is written has a maximum of the type of its samples, `M`, so that each of them can be it.
+// A picture that is written has a maximum of the type of its samples, `M`, so that any sample can hold it.
 #[derive(Drop)]
 pub struct Corner<S, M = u8> {
     samples: S,
@@ -56,8 +56,8 @@ pub struct Corner<S, M = u8> {
 }
 
 impl<S: Samples, M: Sample> Corner<S, M> {
-    // Opens the corner carrier of a picture of this width in pixels, which can be written if its samples can. A channel
-    // count that is not 3 counts as 1.
+    // Opens the corner carrier of a picture of this width in pixels, which can be written if its samples can and the
+    // maximum has their type. A channel count that is not 3 counts as 1; it is a count, so it is a number here.
     pub fn over(samples: S, maximum: M, width: u16, channels: u8) -> Corner<S, M>
         ensures samples { result.samples ≡ samples }
         ensures maximum { result.maximum ≡ maximum }
@@ -113,12 +113,12 @@ impl<S: Samples, M: Sample> Carrier for Corner<S, M> {
 }
 
 impl<M: Sample, S: SamplesMut<M>> Corner<S, M> {
-    // Makes `v`, which place `i` takes, its code. The lines are those of `Plain`; what they do to the codes is not.
+    // Makes `v`, which place `i` takes, its code. This call and `put` stand in `Plain` too, which says why.
     fn write(&mut self, i: usize, at: Place, v: i32)
-        requires there { Describes (corner_sites (corner_rest (M.value self.old.maximum) self.old.grid.width (channel_count self.old.grid.channels) (S.Samples.values self.old.samples))) (corner_codes self.old.grid.width (channel_count self.old.grid.channels) (S.Samples.values self.old.samples)) i at }
+        requires there { Describes (⟦<Self as Carrier>⟧.sites (⟦<Self as Carrier>⟧.rest self.old)) (⟦<Self as Carrier>⟧.codes self.old) i at }
         requires taken { takes (site_of at) v ≡ true }
-        ensures puts { Puts 0 (corner_sites (corner_rest (M.value self.old.maximum) self.old.grid.width (channel_count self.old.grid.channels) (S.Samples.values self.old.samples))) i v (corner_codes self.old.grid.width (channel_count self.old.grid.channels) (S.Samples.values self.old.samples)) (corner_codes self.new.grid.width (channel_count self.new.grid.channels) (S.Samples.values self.new.samples)) (S.Samples.values self.old.samples) (S.Samples.values self.new.samples) (Ok result) }
-        ensures rest { corner_rest (M.value self.new.maximum) self.new.grid.width (channel_count self.new.grid.channels) (S.Samples.values self.new.samples) ≡ corner_rest (M.value self.old.maximum) self.old.grid.width (channel_count self.old.grid.channels) (S.Samples.values self.old.samples) }
+        ensures puts { Puts 0 (⟦<Self as Carrier>⟧.sites (⟦<Self as Carrier>⟧.rest self.old)) i v (⟦<Self as Carrier>⟧.codes self.old) (⟦<Self as Carrier>⟧.codes self.new) (⟦<Self as Carrier>⟧.picture self.old) (⟦<Self as Carrier>⟧.picture self.new) (Ok result) }
+        ensures rest { ⟦<Self as Carrier>⟧.rest self.new ≡ ⟦<Self as Carrier>⟧.rest self.old }
         ensures lent { S.SamplesMut.lent self.new.samples ≡ S.SamplesMut.lent self.old.samples }
     {
         // the maximum is no more than a sample can hold

@@ -1,5 +1,5 @@
-// The corner carrier: the lower right sample of each block of 2 x 2 pixels, by its distance from a prediction. This file
-// tells where its places lie, by the picture's width and channels.
+// The corner carrier: the lower right sample of each block of 2 x 2 pixels, by its distance from a prediction. This
+// file tells where its places lie, by the picture's width and channels.
 #![tactic(auto)]
 
 ghost use Rattle.std.specs.Prelude.{◌≡◌, ◌+◌, ◌/◌, ◌%◌, ◌<◌, ◌≤◌, MatchOption};
@@ -22,8 +22,8 @@ enum Channels {
 }
 
 impl Channels {
-    // The block and the channel of place `p`. No division is left of either case: with `p / n` and `p % n` in place of
-    // the two a pass over one channel took a tenth longer.
+    // The block and the channel of place `p`. Compiled, neither case has a division left. One case for both, `p / n`
+    // and `p % n`, divides, and a pass over one channel took a tenth longer with it.
     fn split(self, p: usize) -> (usize, usize)
         ensures block { result.0 ≡ p / channel_count self }
         ensures channel { result.1 ≡ p % channel_count self }
@@ -97,7 +97,7 @@ struct Grid {
     width: u16,
     channels: Channels,
     // 2^39 divided by the blocks of a row, and one more: a hint for `divided`, on which no answer depends.
-    inverse: u64,
+    inverse: usize,
 }
 
 impl Grid {
@@ -105,7 +105,7 @@ impl Grid {
         ensures width { result.width ≡ width }
         ensures channels { channel_count result.channels ≡ counted channels }
     {
-        let half = u64::from(width / 2);
+        let half = usize::from(width / 2);
         let inverse = if half == 0 {
             1
         } else {
@@ -126,8 +126,7 @@ impl Grid {
         ensures remainder { result.1 ≡ n % across self.width }
     {
         let half = usize::from(self.width / 2);
-        // `as` is proved to lose nothing here, and between these types there is no `From`
-        let quotient = ((n as u64).wrapping_mul(self.inverse) >> SCALE) as usize;
+        let quotient = n.wrapping_mul(self.inverse) >> SCALE;
         let product = quotient * half;
         if product <= n && n - product < half {
             (quotient, n - product)

@@ -1,5 +1,5 @@
 // The median edge predictor.
-ghost use Rattle.std.specs.Prelude.{◌≡◌, ℕ, pos, ◌+ℤ◌, ◌-ℤ◌};
+ghost use Rattle.std.specs.Prelude.{◌≡◌, pos, ◌+ℤ◌, ◌-ℤ◌};
 ghost use Rattle.corner.specs.Predictor.{predicted, IsMedian};
 
 // `left + above - diagonal`, held between `left` and `above`.

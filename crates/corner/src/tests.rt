@@ -40,6 +40,7 @@ fn whole_blocks_make_the_places(rt: HostRuntime) {
     assert_eq!(rt; count(&samples, 65_535, 3), 0);
 }
 
+// Like those of other crates' tests; crates share no code of tests.
 fn at(code: i32, low: i32, high: i32, seat: usize) -> Result<Place, Refusal> {
     Ok(Place {
         code,

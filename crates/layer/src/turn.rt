@@ -1,6 +1,6 @@
 // The turn: every code is negated.
-ghost use Rattle.std.specs.Prelude.{◌≡◌, ℕ, List, length, ℤ, neg_ℤ, Result};
-ghost use Rattle.carrier.specs.Meaning.{Site, InRange, Describes, Placed, Looked, Puts, site_of};
+ghost use Rattle.std.specs.Prelude.{◌≡◌, neg_ℤ, Result};
+ghost use Rattle.carrier.specs.Meaning.{InRange, Describes, Puts, site_of};
 ghost use Rattle.carrier.specs.declared.interface.Place.{Place};
 ghost use Rattle.refusal.specs.declared.Refusal.{Refusal};
 ghost use Rattle.std.specs.Int.{saturate_to_bits};
@@ -78,12 +78,13 @@ impl<C: Carrier> Carrier for Turn<C> {
 }
 
 impl<C: CarrierMut> Turn<C> {
-    // Puts `w` at place `i` below, which is what the turn shows as `v`.
+    // Puts `w` at place `i` below, which is what the turn shows as `v`. The window's call of this name asks for other
+    // facts.
     fn put_below(&mut self, i: usize, w: i32, v: i32) -> Result<(), Refusal>
-        requires place { (at : Place) × Describes (turned_sites (C.Carrier.sites (C.Carrier.rest self.old.below))) (turned_codes (C.Carrier.codes self.old.below)) i at }
+        requires place { (at : Place) × Describes (⟦<Self as Carrier>⟧.sites (⟦<Self as Carrier>⟧.rest self.old)) (⟦<Self as Carrier>⟧.codes self.old) i at }
         requires value { w ≡ saturate_to_bits 31 (neg_ℤ v) }
-        ensures puts { Puts (raised (C.Carrier.level (C.Carrier.rest self.old.below))) (turned_sites (C.Carrier.sites (C.Carrier.rest self.old.below))) i v (turned_codes (C.Carrier.codes self.old.below)) (turned_codes (C.Carrier.codes self.new.below)) (C.Carrier.picture self.old.below) (C.Carrier.picture self.new.below) result }
-        ensures rest { C.Carrier.rest self.new.below ≡ C.Carrier.rest self.old.below }
+        ensures puts { Puts (⟦<Self as Carrier>⟧.level (⟦<Self as Carrier>⟧.rest self.old)) (⟦<Self as Carrier>⟧.sites (⟦<Self as Carrier>⟧.rest self.old)) i v (⟦<Self as Carrier>⟧.codes self.old) (⟦<Self as Carrier>⟧.codes self.new) (⟦<Self as Carrier>⟧.picture self.old) (⟦<Self as Carrier>⟧.picture self.new) result }
+        ensures rest { ⟦<Self as Carrier>⟧.rest self.new ≡ ⟦<Self as Carrier>⟧.rest self.old }
         ensures lent { C.CarrierMut.lent self.new.below ≡ C.CarrierMut.lent self.old.below }
     {
         self.below.put(i, w)

@@ -1,7 +1,6 @@
 // The window: some places in a row of those below.
-ghost use Rattle.std.specs.Prelude.{◌≡◌, ℕ, ◌+◌, ◌-◌, ◌^◌, ◌<◌, ◌≤◌, min, MatchOption, List, length, ℤ};
-ghost use Rattle.carrier.specs.Meaning.{Placed, Looked, Puts};
-ghost use Rattle.layer.specs.Over.{raised};
+ghost use Rattle.std.specs.Prelude.{◌≡◌, ◌+◌, ◌-◌, ◌^◌, ◌<◌, ◌≤◌, min, MatchOption, length};
+ghost use Rattle.carrier.specs.Meaning.{Puts};
 ghost use Rattle.layer.specs.Window.{WindowRest, windowed, window_rest, window_sites, window_level};
 ghost use Rattle.layer.specs.WindowMeaning.{window_meaning};
 
@@ -29,11 +28,9 @@ impl<C> Window<C> {
             shown,
         }
     }
-}
 
-impl<C: Carrier> Window<C> {
-    // The number below of place `i`, if the window shows so many. A sum past the largest number is taken as that, at which
-    // no carrier has a place.
+    // The number below of place `i`, if `i` is less than `shown`. A sum past the largest number is taken as that, at
+    // which no carrier has a place.
     fn number_below(&self, i: usize) -> Option<usize>
         ensures { MatchOption result (self.now.shown ≤ i) (λ k. (i < self.now.shown) × (k ≡ min (self.now.start + i) (2 ^ 64 - 1))) }
     {
@@ -78,10 +75,10 @@ impl<C: Carrier> Carrier for Window<C> {
 impl<C: CarrierMut> Window<C> {
     // Puts `v` at place `k` below, which is place `i` of the window.
     fn put_below(&mut self, i: usize, k: usize, v: i32) -> Result<(), Refusal>
-        requires place { i < length (windowed self.old.start self.old.shown (C.Carrier.codes self.old.below)) }
+        requires place { i < length (⟦<Self as Carrier>⟧.codes self.old) }
         requires number { k ≡ min (self.old.start + i) (2 ^ 64 - 1) }
-        ensures puts { Puts (raised (C.Carrier.level (C.Carrier.rest self.old.below))) (windowed self.old.start self.old.shown (C.Carrier.sites (C.Carrier.rest self.old.below))) i v (windowed self.old.start self.old.shown (C.Carrier.codes self.old.below)) (windowed self.new.start self.new.shown (C.Carrier.codes self.new.below)) (C.Carrier.picture self.old.below) (C.Carrier.picture self.new.below) result }
-        ensures rest { window_rest C.Carrier.sites (C.Carrier.rest self.new.below) self.new.start self.new.shown (C.Carrier.codes self.new.below) (C.Carrier.picture self.new.below) ≡ window_rest C.Carrier.sites (C.Carrier.rest self.old.below) self.old.start self.old.shown (C.Carrier.codes self.old.below) (C.Carrier.picture self.old.below) }
+        ensures puts { Puts (⟦<Self as Carrier>⟧.level (⟦<Self as Carrier>⟧.rest self.old)) (⟦<Self as Carrier>⟧.sites (⟦<Self as Carrier>⟧.rest self.old)) i v (⟦<Self as Carrier>⟧.codes self.old) (⟦<Self as Carrier>⟧.codes self.new) (⟦<Self as Carrier>⟧.picture self.old) (⟦<Self as Carrier>⟧.picture self.new) result }
+        ensures rest { ⟦<Self as Carrier>⟧.rest self.new ≡ ⟦<Self as Carrier>⟧.rest self.old }
         ensures lent { C.CarrierMut.lent self.new.below ≡ C.CarrierMut.lent self.old.below }
     {
         self.below.put(k, v)

@@ -1,6 +1,7 @@
 use super::*;
 use carrier::Plain;
 
+// Slots and map bits, without their names, so that a case fits a line.
 fn counted(picture: &[u8], maximum: u8, peak: i32, zero: i32) -> (usize, usize) {
     let counts = Pair { peak, zero }.counts_on(&Plain::over(picture, maximum));
     (counts.slots, counts.map_bits)

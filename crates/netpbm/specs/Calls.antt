@@ -4,7 +4,7 @@ use Rattle.std.specs.Option.{option_map}
 use Rattle.std.specs.Borrow.{Bor}
 use Rattle.netpbm.specs.Reading.{channels}
 
--- a number that was found, and the bytes after it
+-- what was found, and the bytes after it
 abbrev pub taken : Option (ℕ × Bor (List ℕ)) → Option (ℕ × List ℕ)
 taken found = option_map (λ f. (f.0, f.1.now)) found
 

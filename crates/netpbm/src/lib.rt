@@ -1,7 +1,7 @@
 // Picture files: the binary grey and colour formats of Netpbm, with one byte to a sample.
 #![tactic(auto)]
 
-ghost use Rattle.std.specs.Prelude.{◌≡◌, ℕ, ◌*◌, ◌<◌, ◌≤◌, ◌&&◌, IfSome, OnSome, if◌then◌else◌, drop, length, nat_le};
+ghost use Rattle.std.specs.Prelude.{◌≡◌, ◌*◌, ◌<◌, ◌≤◌, ◌&&◌, IfSome, OnSome, if◌then◌else◌, drop, length, nat_le};
 ghost use Rattle.std.specs.Option.{option_copied};
 ghost use Rattle.refusal.specs.Answers.{answer};
 ghost use Rattle.netpbm.specs.Bytes.{white};
@@ -37,7 +37,7 @@ pub fn read(file: &[u8]) -> Result<Header, Refusal>
 {
     pictures_are_accepted(file);
     let (channels, rest) = begin(file).ok_or(Refusal::NotAPicture)?;
-    // Each of the three numbers stands with the refusal for its lack in sight.
+    // A rule of the project: each of the three numbers is taken by `let .. else`, with its refusal beside it.
     let Some((width, rest)) = number(rest) else {
         return Err(Refusal::NotAHeader);
     };

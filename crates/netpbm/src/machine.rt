@@ -29,7 +29,7 @@ enum State {
     Failed,
 }
 
-// A state that each byte changes in place.
+// A state that each byte changes in place. A rule of the project: the machine matches its own state and the byte.
 #[derive(Drop)]
 struct Machine {
     state: State,
@@ -63,6 +63,7 @@ impl Machine {
 }
 
 // The number after the gap that `bytes` begin with, and the bytes that stand after it.
+#[tactic(auto, using(crate::proofs::Running::reads_failure, crate::proofs::Running::reads_nothing))]
 pub fn number(bytes: &[u8]) -> Option<(u32, &[u8])>
     ensures value { taken result ≡ number_at bytes.now }
     ensures rest { IfSome result (λ n. length n.1.now ≤ length bytes.now) }

@@ -21,7 +21,7 @@ pub extern "C" fn slots_on_plain(samples: &[u8], maximum: u8, peak: i32, zero: i
         .slots
 }
 
-// The same on the corner carrier.
+// The same on the corner carrier. Two calls, since C knows each by its name.
 #[unsafe(no_mangle)]
 pub extern "C" fn slots_on_corner(
     samples: &[u8],

@@ -60,7 +60,7 @@ pub fn put_in_window<C: CarrierMut>(
     window.put(i, v)
 }
 
-// The same over the plain carrier of a picture: it says what the picture holds in the end, which the generic call can't.
+// The same over the plain carrier of a picture: it says what the picture holds in the end, as the generic call can't.
 pub fn put_in_picture(
     picture: &mut [u8],
     maximum: u8,

@@ -2,6 +2,7 @@ use super::*;
 use carrier::Place;
 use tally::survey;
 
+// Like those of corner's tests; crates share no code of tests.
 fn at(code: i32, low: i32, high: i32, seat: usize) -> Result<Place, Refusal> {
     Ok(Place {
         code,

@@ -1,7 +1,7 @@
 // The survey: which pair of values suits a mark on a carrier best.
 #![tactic(auto)]
 
-ghost use Rattle.std.specs.Prelude.{◌≡◌, Some, Bool, ℕ, suc, ◌+◌, ◌*◌, ◌<◌, length, drop, nat_lt, if◌then◌else◌, slice_index};
+ghost use Rattle.std.specs.Prelude.{◌≡◌, Some, Bool, ℕ, suc, ◌+◌, ◌<◌, length, drop, nat_lt, if◌then◌else◌, slice_index};
 ghost use Rattle.std.specs.Cmp.{IsStrictWeakOrder};
 ghost use Rattle.carrier.specs.Meaning.{InRange};
 ghost use Rattle.mark.specs.Places.{same};
@@ -36,7 +36,8 @@ impl fmt::Display for Surveyed {
     }
 }
 
-// Where the first of the best counts stands; 0 in an empty row. The test says which of two counts is better.
+// Where the first of the best counts stands; 0 in an empty row. `better(x, y)` says that x is better than y. It is a
+// `for`, since the clause of `min_by_key` on items leaves open which of equals it takes.
 fn first_best<B: Fn(u32, u32) -> bool>(counts: &[u32], better: B) -> usize
     requires { B.IsAlwaysCallable better }
     ensures value { (o : ℕ → ℕ → Bool) → IsStrictWeakOrder o → AnswersAs (B.post better) o → result ≡ first_best o counts.now }

@@ -1,6 +1,7 @@
 use super::*;
 use carrier::Plain;
 
+// Peak, zero, slots and map bits, without their names, so that a case fits a line.
 fn surveyed(picture: &[u8], maximum: u8) -> (i32, i32, usize, usize) {
     let found = survey(&Plain::over(picture, maximum));
     (

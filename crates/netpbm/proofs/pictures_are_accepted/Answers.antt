@@ -1,3 +1,4 @@
+-- Each is needed: without it the check leaves its goal open.
 use Rattle.netpbm.proofs.Pictures.{pictures}
 use Rattle.netpbm.proofs.pictures_are_accepted.Goals as goal
 

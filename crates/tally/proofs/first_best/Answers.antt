@@ -1,3 +1,4 @@
+-- Each is needed: without it the check leaves its goal open.
 use Rattle.std.proofs.Common.{sym, ◌∙◌, arith}
 use Rattle.tally.proofs.Best.{turn_takes, turn_keeps, found}
 use Rattle.tally.proofs.first_best.Goals as goal

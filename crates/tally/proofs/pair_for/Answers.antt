@@ -1,3 +1,4 @@
+-- Each is needed: without it the check leaves its goal open.
 use Rattle.std.proofs.Common.{rules, arith}
 use Rattle.tally.proofs.Choosing.{is_peak, is_zero}
 use Rattle.tally.proofs.pair_for.Goals as goal

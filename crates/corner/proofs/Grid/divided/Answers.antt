@@ -1,3 +1,4 @@
+-- Each is needed: without it the check leaves its goal open.
 use Rattle.std.proofs.Common.{◌≡◌, ℕ, ◌-◌, ◌*◌, ◌/◌, ◌%◌, ◌<◌, ◌≤◌, sym, ap, ◌∙◌, add-mul, one-mul, arith}
 use native.Mathlib.Nat.{div-eq_of_lt-le, mod-eq-sub-div-mul}
 use Rattle.corner.proofs.Grid.divided.Goals as goal

@@ -1,3 +1,4 @@
+-- Each is needed: without it the check leaves its goal open.
 use Rattle.std.proofs.Common.{◌≡◌, ◌+◌, ◌*◌, ◌/◌, ◌%◌, ◌<◌, ◌≤◌, ap, ◌∙◌, subst, ⊎_elim, arith, rules}
 use Rattle.corner.specs.declared.Channels.{Channels}
 use Rattle.corner.specs.declared.Channels.TheVariants.{One, Three}

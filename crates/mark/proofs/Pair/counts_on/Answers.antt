@@ -1,3 +1,4 @@
+-- Each is needed: without it the check leaves its goal open.
 use Rattle.std.proofs.Common.{rules}
 use Rattle.mark.proofs.Passes.{counted_flag, found_more}
 use Rattle.mark.proofs.Pair.counts_on.Goals as goal

@@ -8,7 +8,7 @@ invariant-loop-at g l =
     let c = g.C.Carrier in
     let sites = c.sites (c.rest l.c) in
     let codes = c.codes l.c in
-    let i = l.at-iterator.next in
+    let i = l.at-iterator.numbers.start in
     record {
       can_next : (goal.iterator-loop-at g).can_next l.at-iterator;
       is_finite : (goal.iterator-loop-at g).is_finite l.at-iterator;

@@ -1,3 +1,4 @@
+-- Each is needed: without it the check leaves its goal open.
 use Rattle.std.proofs.Common.{◌≡◌, rules}
 use Rattle.tally.proofs.Tallying.{tallied_none, tallied_more, tallied_all}
 use Rattle.tally.proofs.Tally.of.Goals as goal
@@ -15,7 +16,7 @@ loop-at-preserved g c =
 
 pub loop-at-init : goal.loop-at-init
 loop-at-init g c =
-    let first : c.into_iter-at-iterator.result.next ≡ 0 = search rules in
+    let first : c.into_iter-at-iterator.result.numbers.start ≡ 0 = search rules in
     record {
       can_next = search rules;
       is_finite = search rules;

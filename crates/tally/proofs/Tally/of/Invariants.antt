@@ -9,5 +9,5 @@ invariant-loop-at g l =
       can_next : (goal.iterator-loop-at g).can_next l.at-iterator;
       is_finite : (goal.iterator-loop-at g).is_finite l.at-iterator;
       same : l.at-iterator.carrier.now ≡ l.c;
-      tallied : Tallied 255 (c.sites (c.rest l.c)) (c.codes l.c) l.at-iterator.next l.found.counts;
+      tallied : Tallied 255 (c.sites (c.rest l.c)) (c.codes l.c) l.at-iterator.numbers.start l.found.counts;
     }

@@ -1,3 +1,4 @@
+-- Each is needed: without it the check leaves its goal open.
 use Rattle.std.proofs.Common.{rules}
 use Rattle.carrier.proofs.PlainPlaces.{described}
 use Rattle.carrier.proofs.plain.PlainCarrier.get.Goals as goal

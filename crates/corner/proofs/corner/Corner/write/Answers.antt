@@ -1,3 +1,4 @@
+-- Each is needed: without it the check leaves its goal open.
 use Rattle.std.proofs.Common.{rules}
 use Rattle.carrier.proofs.Putting.{less_low, done}
 use Rattle.corner.proofs.CornerPlaces.{written}

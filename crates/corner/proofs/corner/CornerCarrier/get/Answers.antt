@@ -1,3 +1,4 @@
+-- Each is needed: without it the check leaves its goal open.
 use Rattle.std.proofs.Common.{◌<◌, subst, rules}
 use Rattle.corner.proofs.CornerPlaces.{seat_in, left_in, above_in, diagonal_in, described}
 use Rattle.corner.proofs.corner.CornerCarrier.get.Goals as goal

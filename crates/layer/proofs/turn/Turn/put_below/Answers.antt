@@ -1,3 +1,4 @@
+-- Each is needed: without it the check leaves its goal open.
 use Rattle.std.proofs.Common.{rules}
 use Rattle.layer.proofs.TurnPuts.{turn_puts}
 use Rattle.layer.proofs.turn.Turn.put_below.Goals as goal

@@ -1,3 +1,4 @@
+-- Each is needed: without it the check leaves its goal open.
 use Rattle.layer.proofs.TurnPlaces.{described}
 use Rattle.layer.proofs.turn.TurnCarrier.get.Goals as goal
 

@@ -1,3 +1,4 @@
+-- Each is needed: without it the check leaves its goal open.
 use Rattle.std.proofs.Common.{rules}
 use Rattle.layer.proofs.WindowPuts.{window_put}
 use Rattle.layer.proofs.window.Window.put_below.Goals as goal

@@ -1,3 +1,4 @@
+-- Each is needed: without it the check leaves its goal open.
 use Rattle.layer.proofs.WindowPlaces.{shows}
 use Rattle.layer.proofs.window.WindowCarrier.get.Goals as goal
 

@@ -5,4 +5,3 @@ use Rattle.netpbm.proofs.machine.number.Goals as goal
 
 pub loop-at-preserved : goal.loop-at-preserved
 loop-at-preserved c = search (rules, reads_more)
-

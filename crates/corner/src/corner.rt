@@ -100,6 +100,7 @@ impl<S: Samples, M: Sample> Carrier for Corner<S, M> {
     }
 
     fn height(&self) -> u8 {
+        // as of each bottom carrier
         0
     }
 

@@ -71,6 +71,7 @@ impl<S: Samples, M: Sample> Carrier for Plain<S, M> {
     }
 
     fn height(&self) -> u8 {
+        // one number, for each bottom carrier to write
         0
     }
 
@@ -85,8 +86,8 @@ impl<S: Samples, M: Sample> Carrier for Plain<S, M> {
 }
 
 impl<M: Sample, S: SamplesMut<M>> Plain<S, M> {
-    // Makes `v`, which place `i` takes, its code. Each bottom carrier has this call and `put` of its own: shared, this
-    // one would be a call that other crates see, and such a call may not have a `requires`.
+    // Makes `v`, which place `i` takes, its code. Each bottom carrier has this call of its own: shared, it would be one
+    // that other crates see, and such a call may not have a `requires`. So each has its `put` too, which calls it.
     fn write(&mut self, i: usize, at: Place, v: i32)
         requires there { Describes (⟦<Self as Carrier>⟧.sites (⟦<Self as Carrier>⟧.rest self.old)) (⟦<Self as Carrier>⟧.codes self.old) i at }
         requires taken { takes (site_of at) v ≡ true }

@@ -11,6 +11,7 @@ fn on_plain(code: i32, seat: usize) -> Result<Place, Refusal> {
     })
 }
 
+// Like that of other crates' tests; crates share no code of tests.
 fn no_place(place: usize) -> Refusal {
     Refusal::NoSuchPlace { height: 0, place }
 }

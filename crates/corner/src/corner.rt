@@ -57,7 +57,7 @@ pub struct Corner<S, M = u8> {
 
 impl<S: Samples, M: Sample> Corner<S, M> {
     // Opens the corner carrier of a picture of this width in pixels, which can be written if its samples can and the
-    // maximum has their type. A channel count that is not 3 counts as 1; it is a count, so it is a number here.
+    // maximum has their type. A channel count that is not 3 counts as 1, by a rule of the project, so any `u8` is one.
     pub fn over(samples: S, maximum: M, width: u16, channels: u8) -> Corner<S, M>
         ensures samples { result.samples ≡ samples }
         ensures maximum { result.maximum ≡ maximum }
@@ -100,7 +100,7 @@ impl<S: Samples, M: Sample> Carrier for Corner<S, M> {
     }
 
     fn height(&self) -> u8 {
-        // as of each bottom carrier
+        // one number, for each bottom carrier to write
         0
     }
 

@@ -15,19 +15,19 @@ use Rattle.layer.proofs.Putting.{cond_alike}
 -- a change of the sample at one of the numbers is not seen once blanked
 one_hidden : (ks before after : List ℕ) (i : ℕ) → i < length ks → length after ≡ length before → ((k : ℕ) → (k ≡ slice_index ks i → ⊥) → slice_index after k ≡ slice_index before k) → blanked ks after ≡ blanked ks before
 one_hidden ks before after i h long others =
-    ap (blanked ks) one_set ∙ blanked-set ks before i (slice_index after (slice_index_or ks i 0)) h
+    ap (blanked ks) one_set ∙ blanked-set ks before i (slice_index after (slice_index ks i)) h
   where
-    one_set : after ≡ slice_set before (slice_index ks i) (slice_index after (slice_index_or ks i 0))
+    one_set : after ≡ slice_set before (slice_index ks i) (slice_index after (slice_index ks i))
     one_set =
-        ext_get_or 0 after (slice_set before (slice_index ks i) (slice_index after (slice_index_or ks i 0)))
-        (long ∙ sym (length-set before (slice_index ks i) (slice_index after (slice_index_or ks i 0))))
+        ext_get_or 0 after (slice_set before (slice_index ks i) (slice_index after (slice_index ks i)))
+        (long ∙ sym (length-set before (slice_index ks i) (slice_index after (slice_index ks i))))
         (λ k low.
         ⊎_elim
         (λ (e : k ≡ slice_index ks i).
         ap (λ n. slice_index after n) e
-        ∙ sym (get_or-set_same before (slice_index ks i) (slice_index after (slice_index_or ks i 0)) 0 (omega arith))
-        ∙ ap (λ n. slice_index_or (slice_set before (slice_index ks i) (slice_index after (slice_index_or ks i 0))) n 0) (sym e))
-        (λ (ne : k ≡ slice_index ks i → ⊥). others k ne ∙ sym (get_or-set_other before (slice_index ks i) k (slice_index after (slice_index_or ks i 0)) 0 ne))
+        ∙ sym (get_or-set_same before (slice_index ks i) (slice_index after (slice_index ks i)) 0 (omega arith))
+        ∙ ap (λ n. slice_index_or (slice_set before (slice_index ks i) (slice_index after (slice_index ks i))) n 0) (sym e))
+        (λ (ne : k ≡ slice_index ks i → ⊥). others k ne ∙ sym (get_or-set_other before (slice_index ks i) k (slice_index after (slice_index ks i)) 0 ne))
         (cases_eq k (slice_index ks i)))
 
 -- a put of v at place start + i below is a put of v at place i of the window

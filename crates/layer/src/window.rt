@@ -73,7 +73,7 @@ impl<C: Carrier> Carrier for Window<C> {
 }
 
 impl<C: CarrierMut> Window<C> {
-    // Puts `v` at place `k` below, which is place `i` of the window.
+    // Puts `v` at place `k` below, which is place `i` of the window. The turn's call of this name asks for other facts.
     fn put_below(&mut self, i: usize, k: usize, v: i32) -> Result<(), Refusal>
         requires place { i < length (⟦<Self as Carrier>⟧.codes self.old) }
         requires number { k ≡ min (self.old.start + i) (2 ^ 64 - 1) }

@@ -22,6 +22,7 @@ const LARGEST_MAXIMUM: u16 = 255;
 
 #[derive(Clone, Copy, PartialEq, Eq, Debug)]
 pub struct Header {
+    // 1 or 3: a number of samples, which sizes are multiplied by.
     pub channels: u8,
     pub width: u16,
     pub height: u16,

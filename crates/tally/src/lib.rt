@@ -36,8 +36,7 @@ impl fmt::Display for Surveyed {
     }
 }
 
-// Where the first of the best counts stands; 0 in an empty row. `better(x, y)` says that x is better than y. It is a
-// `for`, since the clause of `min_by_key` on items leaves open which of equals it takes.
+// Where the first of the best counts stands; 0 in an empty row. `better(x, y)` says that x is better than y.
 fn first_best<B: Fn(u32, u32) -> bool>(counts: &[u32], better: B) -> usize
     requires { B.IsAlwaysCallable better }
     ensures value { (o : ℕ → ℕ → Bool) → IsStrictWeakOrder o → AnswersAs (B.post better) o → result ≡ first_best o counts.now }

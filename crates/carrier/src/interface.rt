@@ -70,14 +70,19 @@ pub trait Carrier {
             place: i,
         })
     }
+}
 
+// The pass over a carrier. Every sized carrier has it, and none writes it: as a method of `Carrier` it would be proved anew
+// for each carrier, which today's toolchain can't where one holds a function pointer or a boxed closure.
+pub trait Pass: Carrier + Sized {
     // All places, in their order.
     fn places(&self) -> Places<'_, Self>
-    where
-        Self: Sized,
         ensures carrier { result.carrier.now ≡ self.now }
-        ensures first { result.numbers.start ≡ 0 }
-    {
+        ensures first { result.numbers.start ≡ 0 };
+}
+
+impl<C: Carrier> Pass for C {
+    fn places(&self) -> Places<'_, C> {
         Places {
             carrier: self,
             numbers: 0..self.count(),

@@ -6,9 +6,9 @@ mod lent;
 mod plain;
 mod samples;
 
-pub use interface::{Carrier, CarrierMut, Place, Places, may_put};
+pub use interface::{Carrier, CarrierMut, Pass, Place, Places, may_put};
 pub use plain::{Plain, used};
-pub use samples::{Sample, Samples, SamplesMut};
+pub use samples::{ByteSamples, Sample, Samples, SamplesMut, SamplesOf};
 
 #[cfg(test)]
 mod tests;

@@ -5,7 +5,7 @@ ghost use Rattle.carrier.specs.Plain.{most, PlainRest, plain_site, plain_rest, p
 ghost use Rattle.carrier.specs.PlainMeaning.{plain_meaning};
 
 use crate::interface::{Carrier, CarrierMut, Place, may_put};
-use crate::samples::{Sample, Samples, SamplesMut};
+use crate::samples::{Sample, Samples, SamplesMut, SamplesOf};
 use refusal::Refusal;
 
 // The most samples that a carrier uses.
@@ -39,14 +39,35 @@ pub struct Plain<S, M = u8> {
     maximum: M,
 }
 
-impl<S: Samples, M: Sample> Plain<S, M> {
-    // Opens the plain carrier of a picture, which can be written if its samples can and the maximum has their type.
-    // Codes above the maximum are read as they are.
+impl<S: SamplesOf<M>, M: Sample> Plain<S, M> {
+    // Opens the plain carrier of a picture, which can be written if its samples can (`SamplesMut<M>`). Codes above the
+    // maximum are read as they are.
     pub fn over(samples: S, maximum: M) -> Plain<S, M>
         ensures samples { result.samples ≡ samples }
         ensures maximum { result.maximum ≡ maximum }
     {
         Plain { samples, maximum }
+    }
+}
+
+impl<'a> Plain<&'a [u8]> {
+    // The same of a picture of bytes that is only read.
+    pub fn reading(samples: &'a [u8], maximum: u8) -> Plain<&'a [u8]>
+        ensures picture { result.samples.now ≡ samples.now }
+        ensures maximum { result.maximum ≡ maximum }
+    {
+        Plain::over(samples, maximum)
+    }
+}
+
+impl<'a> Plain<&'a mut [u8], u8> {
+    // The same of a picture of bytes that can be written.
+    pub fn writing(samples: &'a mut [u8], maximum: u8) -> Plain<&'a mut [u8], u8>
+        ensures picture { result.samples.now ≡ samples.old }
+        ensures lender { result.samples.ghost_name ≡ samples.entry.ghost_name }
+        ensures maximum { result.maximum ≡ maximum }
+    {
+        Self::over(samples, maximum)
     }
 }
 

@@ -2,7 +2,12 @@
 ghost use Rattle.std.specs.Prelude.{◌≡◌, ℕ, ◌<◌, ◌≤◌, List, [], ◌∷◌, length, MatchOption, slice_index};
 ghost use Rattle.carrier.specs.Storing.{Stored};
 
+use std::alloc::Allocator;
+use std::borrow::CowSlice;
+use std::boxed::BoxedSlice;
 use std::convert::AsSlice;
+use std::rc::RcSlice;
+use std::sync::ArcSlice;
 
 // The type of a sample: a number that is at most `widest`. `Into<u16>` would not do: of it no greatest value follows.
 pub trait Sample: Copy {
@@ -46,6 +51,9 @@ pub trait Samples {
         ensures { MatchOption result (length (values self.now) ≤ i) (λ v. (i < length (values self.now)) × (v ≡ slice_index (values self.now) i)) };
 }
 
+// Samples that are of type `M` each, as an impl says. The maximum of a picture of these has that type too.
+pub trait SamplesOf<M: Sample>: Samples {}
+
 // Samples that can be changed, each of type `M`.
 pub trait SamplesMut<M: Sample>: Samples {
     // The memory that they borrow, by the ghost names of its references.
@@ -58,9 +66,35 @@ pub trait SamplesMut<M: Sample>: Samples {
         ensures lent { lent self.new ≡ lent self.old };
 }
 
-// One byte a sample, in whatever lends its bytes as a slice: a slice itself, an array, a `Vec`.
-impl<S: AsSlice<u8>> Samples for S {
-    ghost values = { S.items };
+// What holds samples of one byte each, and lends them as a slice. A type says so by an impl of this trait. One that does
+// not may lend its bytes all the same, and have `Samples` of its own.
+pub trait ByteSamples: AsSlice<u8> {}
+
+impl ByteSamples for &[u8] {}
+
+impl ByteSamples for &mut [u8] {}
+
+impl<const N: usize> ByteSamples for [u8; N] {}
+
+impl<A: Allocator> ByteSamples for Vec<u8, A> {}
+
+impl<A: Allocator> ByteSamples for BoxedSlice<u8, A> {}
+
+impl<A: Allocator> ByteSamples for RcSlice<u8, A> {}
+
+impl<A: Allocator> ByteSamples for ArcSlice<u8, A> {}
+
+impl<A: Allocator> ByteSamples for CowSlice<'_, u8, A> {}
+
+impl ByteSamples for &str {}
+
+impl<A: Allocator> ByteSamples for String<A> {}
+
+impl<S: ByteSamples> ByteSamples for &S {}
+
+// One byte a sample.
+impl<S: ByteSamples> Samples for S {
+    ghost values = { S.AsSlice.items };
 
     fn total(&self) -> usize {
         self.as_slice().len()
@@ -71,7 +105,9 @@ impl<S: AsSlice<u8>> Samples for S {
     }
 }
 
-// One byte a sample, in memory that can be written.
+impl<S: ByteSamples> SamplesOf<u8> for S {}
+
+// In memory that can be written.
 impl SamplesMut<u8> for &mut [u8] {
     ghost lent = { λ s. s.ghost_name ∷ [] };
 

@@ -1,5 +1,8 @@
+ghost use Rattle.carrier.specs.Through.{meaning_through};
+
 use super::*;
 use refusal::Refusal;
+use std::convert::AsSlice;
 use std::test::Fail;
 
 fn on_plain(code: i32, seat: usize) -> Result<Place, Refusal> {
@@ -20,7 +23,7 @@ fn no_place(place: usize) -> Refusal {
 #[test]
 fn plain_answers_what_the_picture_holds(rt: HostRuntime) {
     let picture = [7u8, 255, 0];
-    let carrier = Plain::over(&picture, 200u8);
+    let carrier = Plain::reading(&picture, 200);
     assert_eq!(rt; carrier.count(), 3);
     assert_eq!(rt; carrier.height(), 0);
     assert_eq!(rt; carrier.place(0), on_plain(7, 0));
@@ -63,7 +66,7 @@ fn samples_lie_in_a_vec(rt: HostRuntime) -> Result<(), Fail> {
 #[test]
 fn a_put_moves_one_sample(rt: HostRuntime) {
     let mut picture = [7u8, 255, 0];
-    let mut carrier = Plain::over(&mut picture[..], 200u8);
+    let mut carrier = Plain::writing(&mut picture, 200);
     let refused = Refusal::ValueOutOfBounds { height: 0, seat: 1 };
     assert_eq!(rt; carrier.put(1, 201), Err(refused));
     assert_eq!(rt; carrier.put(1, -1), Err(refused));
@@ -75,4 +78,112 @@ fn a_put_moves_one_sample(rt: HostRuntime) {
     assert_eq!(rt; carrier.put(1, 255), Err(refused));
     assert_eq!(rt; carrier.put(0, 0), Ok(()));
     assert!(rt; picture == [0, 200, 0]);
+}
+
+// A lent slice is lent anew to each carrier.
+#[test]
+fn a_slice_is_written_by_two_carriers(rt: HostRuntime) {
+    let mut picture = [7u8, 255, 0];
+    assert_eq!(rt; put_twice(&mut picture), Ok(()));
+    assert!(rt; picture == [8, 255, 1]);
+}
+
+fn put_twice(picture: &mut [u8]) -> Result<(), Refusal> {
+    Plain::writing(picture, 200).put(0, 8)?;
+    Plain::writing(picture, 200).put(2, 1)
+}
+
+// A carrier may hold what it likes, here a function.
+#[derive(Drop)]
+struct Told<C> {
+    below: C,
+    tell: fn(u8) -> u8,
+}
+
+impl<C: Carrier> Carrier for Told<C> {
+    ghost Rest = { C.Carrier.Rest };
+
+    ghost rest = { λ t. C.Carrier.rest t.below };
+
+    ghost codes = { λ t. C.Carrier.codes t.below };
+
+    ghost sites = { C.Carrier.sites };
+
+    ghost level = { C.Carrier.level };
+
+    ghost picture = { λ t. C.Carrier.picture t.below };
+
+    ghost meaning = { meaning_through (λ t. t.below) C.Carrier.meaning };
+
+    fn count(&self) -> usize {
+        self.below.count()
+    }
+
+    fn height(&self) -> u8 {
+        self.below.height()
+    }
+
+    fn get(&self, i: usize) -> Option<Place> {
+        self.below.get(i)
+    }
+}
+
+fn first_and_last<C: Carrier>(c: &C) -> Option<(i32, i32)> {
+    let first = c.place(0).ok()?;
+    let last = c.places().last()?;
+    Some((first.code, last.code))
+}
+
+fn same(v: u8) -> u8 {
+    v
+}
+
+#[test]
+fn a_carrier_may_hold_a_function(rt: HostRuntime) {
+    let picture = [7u8, 255, 0];
+    let told = Told {
+        below: Plain::reading(&picture, 200),
+        tell: same,
+    };
+    assert_eq!(rt; first_and_last(&told), Some((7, 0)));
+}
+
+// Samples may lie where bytes are lent that are none of them, here a name.
+#[derive(Drop)]
+struct Named<'a, S> {
+    samples: S,
+    name: &'a [u8],
+}
+
+impl<S> AsSlice<u8> for Named<'_, S> {
+    ghost items = { λ n. n.name.now };
+
+    fn as_slice(&self) -> &[u8] {
+        self.name
+    }
+}
+
+impl<S: Samples> Samples for Named<'_, S> {
+    ghost values = { λ n. S.Samples.values n.samples };
+
+    fn total(&self) -> usize {
+        self.samples.total()
+    }
+
+    fn sample(&self, i: usize) -> Option<u16> {
+        self.samples.sample(i)
+    }
+}
+
+impl<M: Sample, S: SamplesOf<M>> SamplesOf<M> for Named<'_, S> {}
+
+#[test]
+fn samples_may_lie_beside_other_bytes(rt: HostRuntime) {
+    let picture = [7u8, 255, 0];
+    let named = Named {
+        samples: &picture,
+        name: b"plate",
+    };
+    assert_eq!(rt; named.as_slice().len(), 5);
+    assert_eq!(rt; first_and_last(&Plain::over(named, 200u8)), Some((7, 0)));
 }

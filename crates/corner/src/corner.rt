@@ -10,7 +10,7 @@ ghost use Rattle.corner.specs.Predictor.{predicted};
 
 use crate::predictor::predict;
 use crate::{Grid, Spot};
-use carrier::{Carrier, CarrierMut, Place, Sample, Samples, SamplesMut, may_put, used};
+use carrier::{Carrier, CarrierMut, Place, Sample, Samples, SamplesMut, SamplesOf, may_put, used};
 use refusal::Refusal;
 
 // The place with the seat `seat`, whose sample is `v` where `m` is predicted. In `Plain` nothing is predicted.
@@ -55,9 +55,9 @@ pub struct Corner<S, M = u8> {
     grid: Grid,
 }
 
-impl<S: Samples, M: Sample> Corner<S, M> {
-    // Opens the corner carrier of a picture of this width in pixels, which can be written if its samples can and the
-    // maximum has their type. A channel count that is not 3 counts as 1, by a rule of the project, so any `u8` is one.
+impl<S: SamplesOf<M>, M: Sample> Corner<S, M> {
+    // Opens the corner carrier of a picture of this width in pixels, which can be written if its samples can
+    // (`SamplesMut<M>`). A channel count that is not 3 counts as 1, by a rule of the project, so any `u8` is one.
     pub fn over(samples: S, maximum: M, width: u16, channels: u8) -> Corner<S, M>
         ensures samples { result.samples ≡ samples }
         ensures maximum { result.maximum ≡ maximum }
@@ -70,7 +70,39 @@ impl<S: Samples, M: Sample> Corner<S, M> {
             grid: Grid::new(width, channels),
         }
     }
+}
 
+impl<'a> Corner<&'a [u8], u8> {
+    // The same of a picture of bytes that is only read.
+    pub fn reading(samples: &'a [u8], maximum: u8, width: u16, channels: u8) -> Corner<&'a [u8], u8>
+        ensures picture { result.samples.now ≡ samples.now }
+        ensures maximum { result.maximum ≡ maximum }
+        ensures width { result.grid.width ≡ width }
+        ensures channels { channel_count result.grid.channels ≡ counted channels }
+    {
+        Corner::over(samples, maximum, width, channels)
+    }
+}
+
+impl<'a> Corner<&'a mut [u8], u8> {
+    // The same of a picture of bytes that can be written.
+    pub fn writing(
+        samples: &'a mut [u8],
+        maximum: u8,
+        width: u16,
+        channels: u8,
+    ) -> Corner<&'a mut [u8], u8>
+        ensures picture { result.samples.now ≡ samples.old }
+        ensures lender { result.samples.ghost_name ≡ samples.entry.ghost_name }
+        ensures maximum { result.maximum ≡ maximum }
+        ensures width { result.grid.width ≡ width }
+        ensures channels { channel_count result.grid.channels ≡ counted channels }
+    {
+        Self::over(samples, maximum, width, channels)
+    }
+}
+
+impl<S: Samples, M: Sample> Corner<S, M> {
     // How many samples of the picture are used.
     fn used(&self) -> usize
         ensures { result ≡ min most (length (S.Samples.values self.now.samples)) }

@@ -62,7 +62,7 @@ fn places_of_an_odd_picture(rt: HostRuntime) {
         11, 14, 10, 255, 9, //
         1, 2, 3, 4, 5,
     ];
-    let carrier = Corner::over(&samples, 200u8, 5, 1);
+    let carrier = Corner::reading(&samples, 200, 5, 1);
     assert_eq!(rt; carrier.height(), 0);
     // (11, 12, 10) predicts 12, and (10, 20, 13) predicts 17; the second sample is above the maximum
     assert_eq!(rt; carrier.place(0), at(2, -12, 188, 6));
@@ -85,7 +85,7 @@ fn channels_are_places_of_one_block(rt: HostRuntime) {
 #[test]
 fn a_put_moves_the_seat_alone(rt: HostRuntime) {
     let mut samples = [10u8, 12, 11, 14];
-    let mut carrier = Corner::over(&mut samples[..], 100u8, 2, 1);
+    let mut carrier = Corner::writing(&mut samples, 100, 2, 1);
     assert_eq!(rt; carrier.place(0), at(2, -12, 88, 3));
     let refused = Refusal::ValueOutOfBounds { height: 0, seat: 3 };
     assert_eq!(rt; carrier.put(0, -13), Err(refused));

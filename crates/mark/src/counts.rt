@@ -3,7 +3,7 @@ ghost use Rattle.std.specs.Prelude.{◌≡◌};
 ghost use Rattle.mark.specs.Rows.{slots, map_bits_of};
 
 use crate::{Pair, Seen};
-use carrier::Carrier;
+use carrier::{Carrier, Pass};
 
 // What a mark with a pair would find on a carrier.
 #[derive(Clone, Copy, PartialEq, Eq, Debug)]

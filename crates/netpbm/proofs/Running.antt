@@ -60,6 +60,7 @@ sound_more Failed b ok = tt
 pub record Reads (s : State) (at : ℕ) (bytes : List ℕ) : Type 0 where
   pub sound : Sound s
   pub going : (v : ℕ) → s ≡ Ended v → ⊥
+  pub live : s ≡ Failed → ⊥
   pub same : from s (drop at bytes) ≡ number bytes
 
 -- where reading goes on, the byte has been read
@@ -81,10 +82,11 @@ module _ (s s' : State) (at : ℕ) (bytes : List ℕ) (r : Reads s at bytes) (in
       cc
 
   -- reading goes on
-  pub reads_more : ((v : ℕ) → s' ≡ Ended v → ⊥) → Reads s' (at + 1) bytes
-  reads_more going = record {
+  pub reads_more : ((v : ℕ) → s' ≡ Ended v → ⊥) → (s' ≡ Failed → ⊥) → Reads s' (at + 1) bytes
+  reads_more going live = record {
     sound = subst Sound (sym next) (sound_more s (slice_index bytes at) r.sound);
     going = going;
+    live = live;
     same = let e = on in let f = resumed_going s' (slice_index bytes at) (drop (at + 1) bytes) going in cc;
   }
 

@@ -23,7 +23,8 @@ fn survey_samples(file: &[u8], header: Header) -> Surveyed
     ensures { result ≡ plain_survey header.maximum (drop header.length file.now) }
 {
     let samples = &file[header.length..];
-    survey(&Plain::over(samples, header.maximum))
+    let maximum = u8::try_from(header.maximum).unwrap();
+    survey(&Plain::over(samples, maximum))
 }
 
 // Surveys the picture that a file holds.

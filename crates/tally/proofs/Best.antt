@@ -45,7 +45,7 @@ module _ (o : ℕ → ℕ → Bool) (ranks : IsStrictWeakOrder o) where
         none zero d h = never_itself x
         none (suc k) d h = ranks.chain _ (slice_index xs r) _ (ap (o _) (sym (same_best d)) ∙ is.1 k d (omega arith)) lose
 
-  first_best_is : (x : ℕ) (xs : List ℕ) → IsFirstBest o (x ∷ xs) (length (x ∷ xs)) (first_best o (x ∷ xs))
+  pub first_best_is : (x : ℕ) (xs : List ℕ) → IsFirstBest o (x ∷ xs) (length (x ∷ xs)) (first_best o (x ∷ xs))
   unfolding first_best
   first_best_is x [] = IsFirstBest-none ranks (x ∷ [])
   first_best_is x (y ∷ ys) =

@@ -29,13 +29,13 @@ module _ (reach : ℕ) (some : 0 < reach) (sites : List Site) (codes : List ℤ)
   peak_first : IsFirstBest (λ x y. nat_lt y x) (take (2 * reach) (tally reach sites codes)) (2 * reach) (peak_at reach (tally reach sites codes))
   peak_first = first_best_in _ greater _ _ (omega (arith, length-take (2 * reach) (tally reach sites codes), length-tally)) (omega arith)
 
-  peak_within : peak_at reach (tally reach sites codes) < 2 * reach
+  pub peak_within : peak_at reach (tally reach sites codes) < 2 * reach
   peak_within = peak_first.0
 
   front_at : (k : ℕ) → k < 2 * reach → slice_index (take (2 * reach) (tally reach sites codes)) k ≡ occurs sites codes (tallied reach k)
   front_at k h = get_or-take (2 * reach) (tally reach sites codes) k 0 h ∙ tally_at k (omega arith)
 
-  is_peak_code : IsPeak reach sites codes (tallied reach (peak_at reach (tally reach sites codes)))
+  pub is_peak_code : IsPeak reach sites codes (tallied reach (peak_at reach (tally reach sites codes)))
   is_peak_code =
       let b = peak_at reach (tally reach sites codes) in
       let low = peak_within in

@@ -9,7 +9,7 @@ ghost use Rattle.tally.specs.Choice.{peak_at, zero_at, peak_of, zero_of, surveye
 ghost use Rattle.tally.specs.Tally.{AnswersAs, first_best, tally, tallied};
 ghost use Rattle.tally.specs.Text.{surveyed_text};
 
-use carrier::Carrier;
+use carrier::{Carrier, Pass};
 use mark::{Counts, Pair};
 use std::fmt;
 

@@ -8,7 +8,7 @@ mod samples;
 
 pub use interface::{Carrier, CarrierMut, Pass, Place, Places, may_put};
 pub use plain::{Plain, used};
-pub use samples::{ByteSamples, Sample, Samples, SamplesMut, SamplesOf};
+pub use samples::{ByteSamples, BytesOf, Sample, Samples, SamplesMut, SamplesOf};
 
 #[cfg(test)]
 mod tests;

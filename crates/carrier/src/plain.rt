@@ -40,9 +40,9 @@ pub struct Plain<S, M = u8> {
 }
 
 impl<S: SamplesOf<M>, M: Sample> Plain<S, M> {
-    // Opens the plain carrier of a picture, which can be written if its samples can (`SamplesMut<M>`). Codes above the
-    // maximum are read as they are.
-    pub fn over(samples: S, maximum: M) -> Plain<S, M>
+    // Opens the plain carrier of a picture, with a maximum of the samples' type, so that a sample can be it. It can be
+    // written if the samples can (`SamplesMut<M>`). Codes above the maximum are read as they are.
+    pub fn fitting(samples: S, maximum: M) -> Plain<S, M>
         ensures samples { result.samples ≡ samples }
         ensures maximum { result.maximum ≡ maximum }
     {
@@ -50,24 +50,34 @@ impl<S: SamplesOf<M>, M: Sample> Plain<S, M> {
     }
 }
 
+impl<S: Samples, M: Sample> Plain<S, M> {
+    // The same of any samples, with a maximum of any type, which may be more than a sample can be.
+    pub fn over(samples: S, maximum: M) -> Plain<S, M>
+        ensures samples { result.samples ≡ samples }
+        ensures maximum { result.maximum ≡ maximum }
+    {
+        Self { samples, maximum }
+    }
+}
+
 impl<'a> Plain<&'a [u8]> {
-    // The same of a picture of bytes that is only read.
+    // `fitting` of a picture of bytes that is only read.
     pub fn reading(samples: &'a [u8], maximum: u8) -> Plain<&'a [u8]>
         ensures picture { result.samples.now ≡ samples.now }
         ensures maximum { result.maximum ≡ maximum }
     {
-        Plain::over(samples, maximum)
+        Plain::fitting(samples, maximum)
     }
 }
 
 impl<'a> Plain<&'a mut [u8], u8> {
-    // The same of a picture of bytes that can be written.
+    // `fitting` of a picture of bytes that can be written.
     pub fn writing(samples: &'a mut [u8], maximum: u8) -> Plain<&'a mut [u8], u8>
         ensures picture { result.samples.now ≡ samples.old }
         ensures lender { result.samples.ghost_name ≡ samples.entry.ghost_name }
         ensures maximum { result.maximum ≡ maximum }
     {
-        Self::over(samples, maximum)
+        Self::fitting(samples, maximum)
     }
 }
 

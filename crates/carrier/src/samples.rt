@@ -51,7 +51,7 @@ pub trait Samples {
         ensures { MatchOption result (length (values self.now) ≤ i) (λ v. (i < length (values self.now)) × (v ≡ slice_index (values self.now) i)) };
 }
 
-// Samples that are of type `M` each, as an impl says. The maximum of a picture of these has that type too.
+// Samples that are of type `M` each, as an impl says. So a maximum of that type is one that a sample can be.
 pub trait SamplesOf<M: Sample>: Samples {}
 
 // Samples that can be changed, each of type `M`.
@@ -91,6 +91,20 @@ impl ByteSamples for &str {}
 impl<A: Allocator> ByteSamples for String<A> {}
 
 impl<S: ByteSamples> ByteSamples for &S {}
+
+// The bytes that `S` lends, as samples, whatever else it is: a type of another crate, or one with `Samples` of its own.
+#[derive(Drop)]
+pub struct BytesOf<S>(pub S);
+
+impl<S: AsSlice<u8>> AsSlice<u8> for BytesOf<S> {
+    ghost items = { λ b. S.items b.0 };
+
+    fn as_slice(&self) -> &[u8] {
+        self.0.as_slice()
+    }
+}
+
+impl<S: AsSlice<u8>> ByteSamples for BytesOf<S> {}
 
 // One byte a sample.
 impl<S: ByteSamples> Samples for S {

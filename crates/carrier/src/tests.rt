@@ -36,14 +36,14 @@ fn plain_answers_what_the_picture_holds(rt: HostRuntime) {
 #[test]
 fn an_empty_picture_has_no_places(rt: HostRuntime) {
     let picture: [u8; 0] = [];
-    let carrier = Plain::over(&picture, 0u8);
+    let carrier = Plain::fitting(&picture, 0u8);
     assert_eq!(rt; carrier.count(), 0);
     assert_eq!(rt; carrier.place(0), Err(no_place(0)));
 }
 
 #[test]
 fn places_come_one_after_another(rt: HostRuntime) {
-    let carrier = Plain::over([7u8, 255, 0], 200u8);
+    let carrier = Plain::fitting([7u8, 255, 0], 200u8);
     let mut places = carrier.places();
     assert_eq!(rt; places.next().map(|at| at.code), Some(7));
     assert_eq!(rt; places.next().map(|at| at.code), Some(255));
@@ -56,10 +56,22 @@ fn places_come_one_after_another(rt: HostRuntime) {
 // The samples may be lent or owned.
 #[test]
 fn samples_lie_in_a_vec(rt: HostRuntime) -> Result<(), Fail> {
-    let carrier = Plain::over(vec![in rt.alloc(); 7u8, 255, 0]?, 200u8);
+    let carrier = Plain::fitting(vec![in rt.alloc(); 7u8, 255, 0]?, 200u8);
     assert_eq!(rt; carrier.get(1), on_plain(255, 1).ok());
     assert_eq!(rt; carrier.get(3), None);
     Ok(())
+}
+
+// The first place of the plain carrier of any samples, with a maximum of any type.
+fn first<S: Samples + Drop, M: Sample>(samples: S, maximum: M) -> Option<Place> {
+    Plain::over(samples, maximum).get(0)
+}
+
+#[test]
+fn a_maximum_may_be_above_every_byte(rt: HostRuntime) {
+    let picture = [7u8, 255, 0];
+    assert_eq!(rt; first(&picture, 200u8), on_plain(7, 0).ok());
+    assert_eq!(rt; first(&picture, 300u16).map(|at| at.high), Some(300));
 }
 
 // A sample above the maximum may be put down, and not up again.
@@ -185,5 +197,17 @@ fn samples_may_lie_beside_other_bytes(rt: HostRuntime) {
         name: b"plate",
     };
     assert_eq!(rt; named.as_slice().len(), 5);
-    assert_eq!(rt; first_and_last(&Plain::over(named, 200u8)), Some((7, 0)));
+    assert_eq!(rt; first_and_last(&Plain::fitting(named, 200u8)), Some((7, 0)));
+}
+
+// Its bytes, of which it does not say that they are its samples, are samples by a word of the caller.
+#[test]
+fn the_bytes_that_are_lent_may_be_the_samples(rt: HostRuntime) {
+    let named = Named {
+        samples: &[7u8, 255, 0],
+        name: b"plate",
+    };
+    let carrier = Plain::over(BytesOf(named), 200u8);
+    assert_eq!(rt; carrier.count(), 5);
+    assert_eq!(rt; first_and_last(&carrier), Some((112, 101)));
 }

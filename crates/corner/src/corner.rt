@@ -56,9 +56,10 @@ pub struct Corner<S, M = u8> {
 }
 
 impl<S: SamplesOf<M>, M: Sample> Corner<S, M> {
-    // Opens the corner carrier of a picture of this width in pixels, which can be written if its samples can
-    // (`SamplesMut<M>`). A channel count that is not 3 counts as 1, by a rule of the project, so any `u8` is one.
-    pub fn over(samples: S, maximum: M, width: u16, channels: u8) -> Corner<S, M>
+    // Opens the corner carrier of a picture of this width in pixels, with a maximum of the samples' type, so that a sample
+    // can be it. It can be written if the samples can (`SamplesMut<M>`). A channel count that is not 3 counts as 1, by a
+    // rule of the project, so any `u8` is one.
+    pub fn fitting(samples: S, maximum: M, width: u16, channels: u8) -> Corner<S, M>
         ensures samples { result.samples ≡ samples }
         ensures maximum { result.maximum ≡ maximum }
         ensures width { result.grid.width ≡ width }
@@ -72,20 +73,37 @@ impl<S: SamplesOf<M>, M: Sample> Corner<S, M> {
     }
 }
 
+impl<S: Samples, M: Sample> Corner<S, M> {
+    // The same of any samples, with a maximum of any type, which may be more than a sample can be.
+    pub fn over(samples: S, maximum: M, width: u16, channels: u8) -> Corner<S, M>
+        ensures samples { result.samples ≡ samples }
+        ensures maximum { result.maximum ≡ maximum }
+        ensures width { result.grid.width ≡ width }
+        ensures channels { channel_count result.grid.channels ≡ counted channels }
+    {
+        let grid = Grid::new(width, channels);
+        Corner {
+            samples,
+            maximum,
+            grid,
+        }
+    }
+}
+
 impl<'a> Corner<&'a [u8], u8> {
-    // The same of a picture of bytes that is only read.
+    // `fitting` of a picture of bytes that is only read.
     pub fn reading(samples: &'a [u8], maximum: u8, width: u16, channels: u8) -> Corner<&'a [u8], u8>
         ensures picture { result.samples.now ≡ samples.now }
         ensures maximum { result.maximum ≡ maximum }
         ensures width { result.grid.width ≡ width }
         ensures channels { channel_count result.grid.channels ≡ counted channels }
     {
-        Corner::over(samples, maximum, width, channels)
+        Corner::fitting(samples, maximum, width, channels)
     }
 }
 
 impl<'a> Corner<&'a mut [u8], u8> {
-    // The same of a picture of bytes that can be written.
+    // `fitting` of a picture of bytes that can be written.
     pub fn writing(
         samples: &'a mut [u8],
         maximum: u8,
@@ -98,7 +116,7 @@ impl<'a> Corner<&'a mut [u8], u8> {
         ensures width { result.grid.width ≡ width }
         ensures channels { channel_count result.grid.channels ≡ counted channels }
     {
-        Self::over(samples, maximum, width, channels)
+        Self::fitting(samples, maximum, width, channels)
     }
 }
 

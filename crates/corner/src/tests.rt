@@ -1,5 +1,5 @@
 use super::*;
-use carrier::{Carrier, CarrierMut, Place};
+use carrier::{Carrier, CarrierMut, Place, Sample, Samples};
 use refusal::Refusal;
 
 #[test]
@@ -13,7 +13,7 @@ fn the_predictor_follows_an_edge_or_a_slope(rt: HostRuntime) {
 }
 
 fn count(samples: &[u8], width: u16, channels: u8) -> usize {
-    Corner::over(samples, 255u8, width, channels).count()
+    Corner::fitting(samples, 255u8, width, channels).count()
 }
 
 #[test]
@@ -75,11 +75,24 @@ fn places_of_an_odd_picture(rt: HostRuntime) {
 #[test]
 fn channels_are_places_of_one_block(rt: HostRuntime) {
     let samples = [1u8, 20, 0, 2, 30, 9, 3, 40, 9, 4, 50, 0];
-    let carrier = Corner::over(&samples, 255u8, 2, 3);
+    let carrier = Corner::fitting(&samples, 255u8, 2, 3);
     assert_eq!(rt; carrier.count(), 3);
     assert_eq!(rt; carrier.place(0), at(1, -3, 252, 9));
     assert_eq!(rt; carrier.place(1), at(10, -40, 215, 10));
     assert_eq!(rt; carrier.place(2), at(-9, -9, 246, 11));
+}
+
+// The first place of the corner carrier of any samples, two in a row, with a maximum of any type.
+fn first_place<S: Samples + Drop, M: Sample>(samples: S, maximum: M) -> Result<Place, Refusal> {
+    Corner::over(samples, maximum, 2, 1).place(0)
+}
+
+// (11, 12, 10) predicts 12
+#[test]
+fn a_high_may_lie_above_every_byte(rt: HostRuntime) {
+    let samples = [10u8, 12, 11, 14];
+    assert_eq!(rt; first_place(&samples, 100u8), at(2, -12, 88, 3));
+    assert_eq!(rt; first_place(&samples, 300u16), at(2, -12, 288, 3));
 }
 
 #[test]

@@ -3,7 +3,7 @@ use carrier::Plain;
 
 // Slots and map bits, without their names, so that a case fits a line.
 fn counted(picture: &[u8], maximum: u8, peak: i32, zero: i32) -> (usize, usize) {
-    let counts = Pair { peak, zero }.counts_on(&Plain::over(picture, maximum));
+    let counts = Pair { peak, zero }.counts_on(&Plain::fitting(picture, maximum));
     (counts.slots, counts.map_bits)
 }
 

@@ -60,8 +60,12 @@ sound_more Failed b ok = tt
 pub record Reads (s : State) (at : ℕ) (bytes : List ℕ) : Type 0 where
   pub sound : Sound s
   pub going : (v : ℕ) → s ≡ Ended v → ⊥
-  pub live : s ≡ Failed → ⊥
   pub same : from s (drop at bytes) ≡ number bytes
+
+-- the same, and reading has not failed
+pub record ReadsOn (s : State) (at : ℕ) (bytes : List ℕ) : Type 0 where
+  pub reads : Reads s at bytes
+  pub live : s ≡ Failed → ⊥
 
 -- where reading goes on, the byte has been read
 resumed_going : (s : State) (b : ℕ) (bs : List ℕ) → ((v : ℕ) → s ≡ Ended v → ⊥) → resumed s b bs ≡ from s bs
@@ -81,14 +85,17 @@ module _ (s s' : State) (at : ℕ) (bytes : List ℕ) (r : Reads s at bytes) (in
       let turned = turn s (slice_index bytes at) (drop (at + 1) bytes) r.sound in
       cc
 
-  -- reading goes on
-  pub reads_more : ((v : ℕ) → s' ≡ Ended v → ⊥) → (s' ≡ Failed → ⊥) → Reads s' (at + 1) bytes
-  reads_more going live = record {
+  -- no number has ended
+  pub reads_more : ((v : ℕ) → s' ≡ Ended v → ⊥) → Reads s' (at + 1) bytes
+  reads_more going = record {
     sound = subst Sound (sym next) (sound_more s (slice_index bytes at) r.sound);
     going = going;
-    live = live;
     same = let e = on in let f = resumed_going s' (slice_index bytes at) (drop (at + 1) bytes) going in cc;
   }
+
+  -- reading goes on
+  pub reads_on : ((v : ℕ) → s' ≡ Ended v → ⊥) → (s' ≡ Failed → ⊥) → ReadsOn s' (at + 1) bytes
+  reads_on going live = record { reads = reads_more going; live = live }
 
   -- there is no number
   pub reads_failure : s' ≡ Failed → number bytes ≡ None

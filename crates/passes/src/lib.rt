@@ -17,7 +17,7 @@ pub extern "C" fn slots_on_plain(samples: &[u8], maximum: u8, peak: i32, zero: i
     ensures { result ≡ slots peak zero (plain_sites (plain_rest maximum samples.now)) (plain_codes samples.now) }
 {
     Pair { peak, zero }
-        .counts_on(&Plain::over(samples, maximum))
+        .counts_on(&Plain::fitting(samples, maximum))
         .slots
 }
 
@@ -34,6 +34,6 @@ pub extern "C" fn slots_on_corner(
     ensures { result ≡ slots peak zero (corner_sites (corner_rest maximum width (counted channels) samples.now)) (corner_codes width (counted channels) samples.now) }
 {
     Pair { peak, zero }
-        .counts_on(&Corner::over(samples, maximum, width, channels))
+        .counts_on(&Corner::fitting(samples, maximum, width, channels))
         .slots
 }

@@ -71,7 +71,7 @@ pub fn put_in_picture(
 ) -> Result<(), Refusal>
     ensures { Puts 1 (windowed start shown (plain_sites (plain_rest maximum picture.old))) i v (windowed start shown (plain_codes picture.old)) (windowed start shown (plain_codes picture.new)) picture.old picture.new result }
 {
-    let mut plain = Plain::over(picture, maximum);
+    let mut plain = Plain::fitting(picture, maximum);
     put_in_window(&mut plain, start, shown, i, v)
 }
 

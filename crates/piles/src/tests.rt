@@ -23,27 +23,33 @@ fn out_of_bounds(seat: usize) -> Refusal {
 #[test]
 fn a_window_is_cut_at_the_end(rt: HostRuntime) {
     let picture = [7u8, 255, 0, 9];
-    let from_two = Window::over(Plain::over(&picture, 200u8), 2, usize::MAX);
+    let from_two = Window::over(Plain::fitting(&picture, 200u8), 2, usize::MAX);
     assert_eq!(rt; from_two.count(), 2);
     assert_eq!(rt; from_two.height(), 1);
     assert_eq!(rt; from_two.place(1), at(9, 0, 200, 3));
     assert_eq!(rt; from_two.place(2), Err(no_place(1, 2)));
     assert_eq!(rt; from_two.place(usize::MAX), Err(no_place(1, usize::MAX)));
-    let one = Window::over(Plain::over(&picture, 200u8), 3, 1);
+    let one = Window::over(Plain::fitting(&picture, 200u8), 3, 1);
     assert_eq!(rt; one.count(), 1);
     assert_eq!(rt; one.place(1), Err(no_place(1, 1)));
-    assert_eq!(rt; Window::over(Plain::over(&picture, 200u8), 4, 9).count(), 0);
     assert_eq!(rt;
-        Window::over(Plain::over(&picture, 200u8), usize::MAX, usize::MAX).count(),
+        Window::over(Plain::fitting(&picture, 200u8), 4, 9).count(),
         0
     );
-    assert_eq!(rt; Window::over(Plain::over(&picture, 200u8), 1, 0).count(), 0);
+    assert_eq!(rt;
+        Window::over(Plain::fitting(&picture, 200u8), usize::MAX, usize::MAX).count(),
+        0
+    );
+    assert_eq!(rt;
+        Window::over(Plain::fitting(&picture, 200u8), 1, 0).count(),
+        0
+    );
 }
 
 #[test]
 fn a_turn_of_a_turn_shows_what_lies_below(rt: HostRuntime) {
     let mut picture = [7u8, 255];
-    let mut carrier = Turn::over(Turn::over(Plain::over(&mut picture[..], 200u8)));
+    let mut carrier = Turn::over(Turn::over(Plain::fitting(&mut picture[..], 200u8)));
     assert_eq!(rt; carrier.count(), 2);
     assert_eq!(rt; carrier.height(), 2);
     assert_eq!(rt; carrier.place(1), at(255, 0, 200, 1));
@@ -55,7 +61,7 @@ fn a_turn_of_a_turn_shows_what_lies_below(rt: HostRuntime) {
 #[test]
 fn refusals_through_two_layers(rt: HostRuntime) {
     let mut picture = [7u8, 255, 0, 9];
-    let turn = Turn::over(Plain::over(&mut picture[..], 200u8));
+    let turn = Turn::over(Plain::fitting(&mut picture[..], 200u8));
     let mut carrier = Window::over(turn, 1, 3);
     assert_eq!(rt; carrier.place(2), at(-9, -200, 0, 3));
     assert_eq!(rt; carrier.put(3, 0), Err(no_place(2, 3)));
@@ -72,7 +78,7 @@ fn refusals_through_two_layers(rt: HostRuntime) {
 #[test]
 fn a_pile_on_a_corner_carrier(rt: HostRuntime) {
     let mut picture = [10u8, 12, 10, 12, 11, 14, 11, 9];
-    let corner = Corner::over(&mut picture[..], 100u8, 4, 1);
+    let corner = Corner::fitting(&mut picture[..], 100u8, 4, 1);
     let turn = Turn::over(Window::over(corner, 1, 5));
     let mut pile = Window::over(turn, 0, 1);
     assert_eq!(rt; pile.height(), 3);
@@ -98,11 +104,11 @@ fn a_window_over_a_picture_that_was_lent(rt: HostRuntime) {
 #[test]
 fn the_survey_of_a_corner_and_of_layers(rt: HostRuntime) {
     let picture = [10u8, 12, 10, 12, 11, 14, 11, 14];
-    let found = survey(&Corner::over(&picture, 255u8, 4, 1));
+    let found = survey(&Corner::fitting(&picture, 255u8, 4, 1));
     assert_eq!(rt; found.pair.peak, 2);
     assert_eq!(rt; found.pair.zero, 3);
     assert_eq!(rt; found.counts.slots, 2);
-    let turned = survey(&Window::over(Turn::over(Corner::over(&picture, 255u8, 4, 1)), 1, 1));
+    let turned = survey(&Window::over(Turn::over(Corner::fitting(&picture, 255u8, 4, 1)), 1, 1));
     assert_eq!(rt; turned.pair.peak, -2);
     assert_eq!(rt; turned.pair.zero, -1);
     assert_eq!(rt; turned.counts.slots, 1);

@@ -24,7 +24,7 @@ fn survey_samples(file: &[u8], header: Header) -> Surveyed
 {
     let samples = &file[header.length..];
     let maximum = u8::try_from(header.maximum).unwrap();
-    survey(&Plain::over(samples, maximum))
+    survey(&Plain::fitting(samples, maximum))
 }
 
 // Surveys the picture that a file holds.

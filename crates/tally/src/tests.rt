@@ -3,7 +3,7 @@ use carrier::Plain;
 
 // Peak, zero, slots and map bits, without their names, so that a case fits a line.
 fn surveyed(picture: &[u8], maximum: u8) -> (i32, i32, usize, usize) {
-    let found = survey(&Plain::over(picture, maximum));
+    let found = survey(&Plain::fitting(picture, maximum));
     (
         found.pair.peak,
         found.pair.zero,

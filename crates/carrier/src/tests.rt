@@ -200,7 +200,7 @@ fn samples_may_lie_beside_other_bytes(rt: HostRuntime) {
     assert_eq!(rt; first_and_last(&Plain::fitting(named, 200u8)), Some((7, 0)));
 }
 
-// Its bytes, of which it does not say that they are its samples, are samples by a word of the caller.
+// The name is no sample of the picture, and in `BytesOf` its bytes are the samples.
 #[test]
 fn the_bytes_that_are_lent_may_be_the_samples(rt: HostRuntime) {
     let named = Named {
